@@ -1,0 +1,16 @@
+//! Variables, literals, clauses and assignments, and the words in which the solver's contracts speak of them.
+#![tactic(auto)]
+
+mod assign;
+mod clauses;
+mod edge;
+mod lit;
+mod lits;
+mod var;
+
+pub use assign::Assign;
+pub use clauses::Clauses;
+pub use edge::Edge;
+pub use lit::Lit;
+pub use lits::{Clause, Lits};
+pub use var::{MAX_VAR, Var};
