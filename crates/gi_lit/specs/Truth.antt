@@ -17,3 +17,11 @@ pub record Satisfies (values : List Bool) (clauses : List (List ℕ)) : Type 0 w
 -- the values make each literal true
 pub record MakesTrue (values : List Bool) (lits : List ℕ) : Type 0 where
   pub each : All (λ l. true_in values l ≡ true) lits
+
+-- whatever satisfies the clauses and makes the given literals true makes l true
+abbrev pub IsConsequence : List (List ℕ) → List ℕ → ℕ → Type 0
+IsConsequence clauses given l = (values : List Bool) → Satisfies values clauses → MakesTrue values given → true_in values l ≡ true
+
+-- nothing satisfies the clauses and makes the given literals true
+abbrev pub Fail : List (List ℕ) → List ℕ → Type 0
+Fail clauses given = (values : List Bool) → Satisfies values clauses → MakesTrue values given → ⊥
