@@ -4,6 +4,7 @@
 mod assign;
 mod clauses;
 mod edge;
+pub mod laws;
 mod lit;
 mod lits;
 mod var;
