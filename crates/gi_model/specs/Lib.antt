@@ -1,2 +1,10 @@
+pub mod Limits
+pub mod State
 pub mod Fits
 pub mod Number
+pub mod Refusals
+pub mod Effects
+pub mod Replies
+pub mod Work
+pub mod Tests
+pub mod History

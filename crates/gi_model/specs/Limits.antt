@@ -1,0 +1,34 @@
+-- How much a machine holds.
+use Rattle.std.specs.Prelude.{ℕ, ◌^◌}
+
+-- variables, guards among them
+abbrev pub most_vars : ℕ
+most_vars = 1048576
+
+-- plain clauses and clauses under guards together
+abbrev pub most_clauses : ℕ
+most_clauses = 4194304
+
+-- their literals as given, guards left out
+abbrev pub most_lits : ℕ
+most_lits = 67108864
+
+-- pending assumptions
+abbrev pub most_pending : ℕ
+most_pending = 1048576
+
+-- open scopes
+abbrev pub most_scopes : ℕ
+most_scopes = 65536
+
+-- solves
+abbrev pub most_solves : ℕ
+most_solves = 2 ^ 56
+
+-- learnt clauses in one slice of work
+abbrev pub most_news : ℕ
+most_news = 1024
+
+-- learnt clauses with which a solve starts without a trim
+abbrev pub most_untrimmed : ℕ
+most_untrimmed = 20000
