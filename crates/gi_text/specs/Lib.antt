@@ -1,0 +1,6 @@
+pub mod Lines
+pub mod Holding
+pub mod Given
+pub mod Words
+pub mod Numbers
+pub mod Number
