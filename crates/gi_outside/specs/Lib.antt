@@ -1,0 +1,6 @@
+pub mod Told
+pub mod Link
+pub mod World
+pub mod Script
+pub mod MemoryState
+pub mod StandardState

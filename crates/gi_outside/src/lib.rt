@@ -1,0 +1,10 @@
+//! What the service sees of the world: a peer that gives bytes and takes bytes, in memory or over standard input and output.
+#![tactic(auto)]
+
+mod link;
+mod memory;
+mod standard;
+
+pub use link::{Got, Link, Piece, Put};
+pub use memory::MemoryLink;
+pub use standard::StdLink;
