@@ -6,6 +6,7 @@ use Rattle.gi_lit.specs.Truth.{clause_true, Satisfies, Fail}
 use Rattle.gi_lit.specs.Problem.{Pair, forced, guarded, Problem, force, full, top, grown, with_clause, with_pair, IsProblemVar, IsPlain, IsWellFormed, IsLiveVar, IsAssumable, guard_made}
 use Rattle.gi_lit.specs.Learnt.{IsImplied}
 use Rattle.gi_lit.specs.Lists.{IsDistinct}
+use Rattle.gi_lit.proofs.Tops.{top_bounds}
 use Rattle.gi_lit.proofs.Vars.{var_facts, var_from, guard_facts, guard_from}
 use Rattle.std.proofs.Common.{append_assoc}
 use Rattle.gi_lit.proofs.Distinct.{IsDistinct-push, IsDistinct-turned, Contains-head, Contains-tail}
@@ -55,12 +56,6 @@ IsWellFormed-grown n p h = record {
   low = h.low;
   high = λ k d lt. let a = h.high k d lt in omega arith;
 }
-
--- every literal's variable is at most the greatest
-pub top_bounds : (c : List ℕ) → All (λ l. l / 2 ≤ top c) c
-unfolding top
-top_bounds [] = All-nil (λ l. l / 2 ≤ 0)
-top_bounds (l ∷ c) = All-cons (λ m. m / 2 ≤ max (l / 2) (top c)) l c (omega arith) (All-weaker (λ m. m / 2 ≤ top c) (λ m. m / 2 ≤ max (l / 2) (top c)) (λ m h. omega arith) c (top_bounds c))
 
 abbrev pub IsUsable : Problem → ℕ → Type 0
 IsUsable p l = IsProblemVar p (l / 2) ⊎ (p.vars < l / 2)

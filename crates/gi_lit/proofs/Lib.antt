@@ -3,6 +3,7 @@ pub mod Closure
 pub mod Closing
 pub mod Distinct
 pub mod Vars
+pub mod Tops
 pub mod Guarding
 pub mod Growing
 pub mod Dropping

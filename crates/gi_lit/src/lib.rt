@@ -9,9 +9,12 @@ mod lit;
 mod lits;
 mod var;
 
+#[cfg(test)]
+mod tests;
+
 pub use assign::Assign;
 pub use clauses::Clauses;
 pub use edge::Edge;
 pub use lit::Lit;
-pub use lits::{Clause, Lits};
+pub use lits::{Clause, Lits, top_variable};
 pub use var::{MAX_VAR, Var};

@@ -1,6 +1,8 @@
-ghost use Rattle.std.specs.Prelude.{◌≡◌, [], ◌∷◌, ◌++◌, length, IsTrue, ◌↔◌, IfOk, OnOk, OnErr};
+ghost use Rattle.std.specs.Prelude.{◌≡◌, ◌/◌, ◌≤◌, All, [], ◌∷◌, ◌++◌, length, IsTrue, ◌↔◌, IfOk, OnOk, OnErr};
+ghost use Rattle.gi_lit.specs.Problem.{top};
 
 use crate::lit::Lit;
+use crate::var::MAX_VAR;
 use std::alloc::{AllocError, Global};
 use std::marker::Model;
 
@@ -83,4 +85,20 @@ impl Lits {
         let items = self.items.clone()?;
         Ok(Lits { items })
     }
+}
+
+/// The greatest variable of the literals, or 0 if there are none.
+pub fn top_variable(lits: &[Lit]) -> u32
+    ensures value { result ≡ top lits.now }
+    ensures high { result ≤ MAX_VAR }
+    ensures within { All (λ l. l / 2 ≤ result) lits.now }
+{
+    let mut greatest = 0;
+    for l in lits {
+        let v = l.var().index();
+        if greatest < v {
+            greatest = v;
+        }
+    }
+    greatest
 }
