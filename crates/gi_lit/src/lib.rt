@@ -7,10 +7,9 @@ mod edge;
 pub mod laws;
 mod lit;
 mod lits;
-mod var;
-
 #[cfg(test)]
 mod tests;
+mod var;
 
 pub use assign::Assign;
 pub use clauses::Clauses;
