@@ -8,6 +8,7 @@ pub record Pair : Type 0 where
   pub guard : ℕ
   pub clause : List ℕ
 
+-- variables, clauses and guards
 pub record Problem : Type 0 where
   pub vars : ℕ  -- the variables are 1 to vars
   pub plain : List (List ℕ)
@@ -27,6 +28,7 @@ has xs x = list_any (nat_eq x) xs
 abbrev pub is_problem_var : Problem → ℕ → Bool
 is_problem_var p v = nat_le 1 v && nat_le v p.vars && not (has p.active v) && not (has p.freed v)
 
+-- the same as a fact
 abbrev pub IsProblemVar : Problem → ℕ → Type 0
 IsProblemVar p v = is_problem_var p v ≡ true
 
@@ -67,6 +69,7 @@ full p = p.plain ++ map guarded p.pairs
 unfoldable pub lit_count : Problem → ℕ
 lit_count p = sum_by length p.plain + sum_by (λ (q : Pair). length q.clause) p.pairs
 
+-- how many clauses it has, those under guards among them
 abbrev pub clause_count : Problem → ℕ
 clause_count p = length p.plain + length p.pairs
 
@@ -83,6 +86,7 @@ grown n p = record p { vars = max p.vars n }
 abbrev pub with_clause : List ℕ → Problem → Problem
 with_clause c p = record p { vars = max p.vars (top c); plain = p.plain ++ c ∷ [] }
 
+-- plain clauses more, in order
 abbrev pub with_clauses : List (List ℕ) → Problem → Problem
 with_clauses [] p = p
 with_clauses (c ∷ cs) p = with_clauses cs (with_clause c p)
@@ -96,14 +100,16 @@ abbrev pub guard_next : ℕ → List ℕ → ℕ
 guard_next vars [] = vars + 1
 guard_next vars (g ∷ gs) = g
 
+-- the guard that the problem gives next
 abbrev pub next_guard : Problem → ℕ
 next_guard p = guard_next p.vars p.freed
 
--- that guard made active
+-- that guard made active, where these are freed
 abbrev pub guard_made : Problem → List ℕ → Problem
 guard_made p [] = record p { vars = p.vars + 1; active = p.active ++ (p.vars + 1) ∷ [] }
 guard_made p (g ∷ gs) = record p { active = p.active ++ g ∷ []; freed = gs }
 
+-- the next guard made active
 abbrev pub with_guard : Problem → Problem
 with_guard p = guard_made p p.freed
 
@@ -115,9 +121,11 @@ names v clause = list_any (λ l. l / 2 == v) clause
 unfoldable pub without_var : ℕ → List (List ℕ) → List (List ℕ)
 without_var v clauses = filter (λ c. not (names v c)) clauses
 
+-- the pairs of other guards, in order
 unfoldable pub without_pairs : ℕ → List Pair → List Pair
 without_pairs g pairs = filter (λ (q : Pair). not (q.guard == g)) pairs
 
+-- the other numbers, in order
 unfoldable pub without : ℕ → List ℕ → List ℕ
 without x xs = filter (λ y. not (y == x)) xs
 
