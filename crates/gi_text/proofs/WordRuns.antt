@@ -1,6 +1,8 @@
 -- Words, one run after another.
 use Rattle.std.proofs.Common.{suc, zero, ◌≡◌, ◌≢◌, ℕ, ◌+◌, ◌<◌, ◌≤◌, List, [], ◌∷◌, ◌++◌, length, take, drop, get_or, Bool, true, false, refl, ap, sym, ◌∙◌, append_assoc, arith, length-append, subst, length-drop}
 use Rattle.std.proofs.lemmas.List.{append-nil}
+use Rattle.std.specs.List.{All}
+use Rattle.gi_text.specs.Laws.{WordsAreRuns}
 use Rattle.gi_text.specs.Words.{is_white, word_of, words_from, words_of}
 
 -- white bytes at the front do not matter
@@ -47,3 +49,29 @@ words_nil xs rest k le white ends e run =
     let first : get_or rest 0 0 ≡ get_or xs k 0 = ap (λ ys. get_or ys 0 0) e ∙ head_after xs k in
     let none : rest ≡ [] = words_none rest (λ h. subst (λ (b : ℕ). is_white b ≢ true) (sym first) (ends (omega (arith, ap length e, length-drop k xs)))) run in
     words_skip xs k le white ∙ ap (words_from []) (sym e ∙ none)
+
+-- a word up to a white byte
+pub words-append : (begun word : List ℕ) (b : ℕ) (rest : List ℕ) → 0 < length begun + length word → All (λ c. is_white c ≡ false) word → is_white b ≡ true → words_from begun (word ++ b ∷ rest) ≡ (begun ++ word) ∷ words_from [] rest
+unfolding words_from
+words-append begun [] b rest more all white = rw white (ap (λ ws. ws ++ words_from [] rest) (one_word begun (omega arith)) ∙ ap (λ w. w ∷ words_from [] rest) (sym (append-nil begun)))
+words-append begun (x ∷ word) b rest more all white =
+    let off : is_white x ≡ false = all zero x (omega arith) in
+    rw off (words-append (begun ++ x ∷ []) word b rest (omega (arith, length-append begun (x ∷ []))) (λ k d lt. all (suc k) d (omega arith)) white
+    ∙ ap (λ w. w ∷ words_from [] rest) (append_assoc begun (x ∷ []) word))
+
+-- a word up to the end
+pub words_last : (begun word : List ℕ) → 0 < length begun + length word → All (λ c. is_white c ≡ false) word → words_from begun word ≡ (begun ++ word) ∷ []
+unfolding words_from
+words_last begun [] more all = one_word begun (omega arith) ∙ ap (λ w. w ∷ []) (sym (append-nil begun))
+words_last begun (x ∷ word) more all =
+    let off : is_white x ≡ false = all zero x (omega arith) in
+    rw off (words_last (begun ++ x ∷ []) word (omega (arith, length-append begun (x ∷ []))) (λ k d lt. all (suc k) d (omega arith)) ∙ ap (λ w. w ∷ []) (append_assoc begun (x ∷ []) word))
+
+pub runs : WordsAreRuns
+unfolding words_from
+runs = record {
+  none = refl;
+  white = λ b rest white. rw white refl;
+  word = λ word b rest more all white. words-append [] word b rest (omega arith) all white;
+  last = λ word more all. words_last [] word (omega arith) all;
+}

@@ -4,3 +4,4 @@ pub mod Given
 pub mod Words
 pub mod Numbers
 pub mod Number
+pub mod Laws

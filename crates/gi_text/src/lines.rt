@@ -137,7 +137,8 @@ impl Lines {
     /// answered `More` while more than the limit of its bytes were there, until `next_line` answers `Long` for it.
     pub fn take_raw(&mut self, n: u32) -> Raw
         requires { self.old.long ≡ false }
-        ensures { GivesRaw result n self.old self.new }
+        ensures raw { GivesRaw result n self.old self.new }
+        ensures long { self.new.long ≡ false }
     {
         let n = n as usize;
         let len = self.held.len();
