@@ -4,6 +4,8 @@
 mod link;
 mod memory;
 mod standard;
+#[cfg(test)]
+mod tests;
 
 pub use link::{Got, Link, Piece, Put};
 pub use memory::MemoryLink;

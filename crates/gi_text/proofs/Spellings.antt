@@ -1,5 +1,5 @@
 -- The shortest spelling of a number is that number.
-use Rattle.std.proofs.Common.{zero, suc, ◌≡◌, ℕ, ◌^◌, ◌<◌, List, [], ◌∷◌, length, Option, Some, Bool, true, false, ◌&&◌, option_map, refl, ap, ◌∙◌, arith, rules, ℤ, pos, negsuc, decimal}
+use Rattle.std.proofs.Common.{suc, ◌≡◌, ℕ, ◌^◌, ◌<◌, List, [], ◌∷◌, length, Some, Bool, true, false, ◌&&◌, option_map, refl, ap, ◌∙◌, arith, rules, ℤ, pos, negsuc, decimal}
 use Rattle.std.specs.Prelude.{◌==◌}
 use Rattle.std.specs.Fmt.{signed_decimal}
 use Rattle.std.specs.Str.{all_ascii_digits}

@@ -1,5 +1,5 @@
 -- Words, one run after another.
-use Rattle.std.proofs.Common.{suc, zero, ◌≡◌, ◌≢◌, ℕ, ◌+◌, ◌<◌, ◌≤◌, List, [], ◌∷◌, ◌++◌, length, take, drop, get_or, Bool, true, false, refl, ap, sym, ◌∙◌, append_assoc, arith, length-append, subst, length-drop}
+use Rattle.std.proofs.Common.{suc, zero, ◌≡◌, ◌≢◌, ℕ, ◌+◌, ◌<◌, ◌≤◌, List, [], ◌∷◌, ◌++◌, length, take, drop, get_or, Bool, true, false, cond, refl, ap, sym, ◌∙◌, append_assoc, arith, length-append, subst, length-drop}
 use Rattle.std.proofs.lemmas.List.{append-nil}
 use Rattle.std.specs.List.{All}
 use Rattle.gi_text.specs.Laws.{WordsAreRuns}
@@ -75,3 +75,19 @@ runs = record {
   word = λ word b rest more all white. words-append [] word b rest (omega arith) all white;
   last = λ word more all. words_last [] word (omega arith) all;
 }
+
+length_from : (begun xs : List ℕ) → length (words_from begun xs) ≤ length (word_of begun) + length xs
+unfolding words_from
+length_from begun [] = omega arith
+length_from begun (x ∷ xs) = by_white (is_white x) (length_from [] xs) (length_from (begun ++ x ∷ []) xs) where
+  one : (bs : List ℕ) → length (word_of bs) ≤ 1
+  one [] = omega arith
+  one (b ∷ bs) = omega arith
+
+  by_white : (b : Bool) → length (words_from [] xs) ≤ 0 + length xs → length (words_from (begun ++ x ∷ []) xs) ≤ length (word_of (begun ++ x ∷ [])) + length xs → length (cond b (word_of begun ++ words_from [] xs) (words_from (begun ++ x ∷ []) xs)) ≤ length (word_of begun) + length (x ∷ xs)
+  by_white true rest more = omega (arith, length-append (word_of begun) (words_from [] xs), rest)
+  by_white false rest more = omega (arith, one (begun ++ x ∷ []), more)
+
+-- there are no more words than bytes
+pub words_len : (xs : List ℕ) → length (words_of xs) ≤ length xs
+words_len xs = omega (arith, length_from [] xs)

@@ -22,8 +22,10 @@ impl<'a> Model for Words<'a> {
 
 impl<'a> Words<'a> {
     /// All words of `line`, which has no LF of its own.
+    #[tactic(auto, using(crate::proofs::WordRuns::words_len))]
     pub fn new(line: &'a [u8]) -> Words<'a>
-        ensures { result ≡ words_of line.now }
+        ensures words { result ≡ words_of line.now }
+        ensures len { length result ≤ length line.now }
     {
         Words { rest: line }
     }
