@@ -20,7 +20,11 @@ fn a_link_follows_its_script(rt: HostRuntime) -> Result<(), Fail> {
         assert_eq!(rt; link.read(&mut into), want);
         assert!(rt; into.starts_with(bytes.as_bytes()));
     }
-    for (piece, want) in [("xy", Put::Failed), ("xyz", Put::Took(3)), ("w", Put::Took(1))] {
+    for (piece, want) in [
+        ("xy", Put::Failed),
+        ("xyz", Put::Took(3)),
+        ("w", Put::Took(1)),
+    ] {
         assert_eq!(rt; link.write(piece.as_bytes()), want);
     }
     assert_eq!(rt; link.written(), b"xyzw".as_slice());
