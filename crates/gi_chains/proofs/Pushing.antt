@@ -2,14 +2,14 @@ use Rattle.std.proofs.Common.{◌≡◌, ◌≢◌, ℕ, zero, suc, ◌+◌, ◌
 use Rattle.std.specs.List.{slice_get, remove}
 use Rattle.std.proofs.lemmas.Bool.{cases_lt, cases_eq, eqb-true}
 use Rattle.std.proofs.lemmas.Option.{slice_get_past, slice_get_within, slice_get-get_or, get_or_from_slice_get}
-use Rattle.std.proofs.lemmas.List.{get_or_default, get_or_append_left, get_or_push}
+use Rattle.std.proofs.lemmas.List.{get_or_read, get_or_default, get_or_append_left, get_or_push}
 use Rattle.std.proofs.lemmas.List.Edits.{length-remove, get_or-remove_below, get_or-remove_above}
 use Rattle.gi_chains.specs.Lists.{Lists, items_at, StandsAt, IsLinked, IsFree, IsApart}
 use Rattle.gi_chains.specs.Links.{blank, no_ends, node_at, with_prev, with_next, walk, walked, before, node_in, ends_of, IsChained}
 use Rattle.gi_chains.specs.declared.node.Node.{Node}
 use Rattle.gi_chains.specs.declared.node.Ends.{Ends}
 use Rattle.gi_chains.proofs.Linking.{slice_get_at, one_list, one_place, free_none, none_free, walked-same}
-use Rattle.std.specs.Option.{option_or}
+use Rattle.std.specs.Option.{IfSome, option_or}
 use Rattle.gi_chains.proofs.Editing.{IsChained-edit, prev_other, prev_same, next_other, next_same, length-with_prev, length-with_next, IsEdit}
 
 front_ends : (k : ℕ) (xs : List ℕ) (e : Ends) (r : Option ℕ) → e ≡ ends_of xs → r ≡ option_or e.last (Some k) → record { first = Some k; last = r } ≡ ends_of (k ∷ xs)
@@ -171,17 +171,41 @@ module _ (ends : List Ends) (nodes : List Node) (lists : List (List ℕ)) (h : I
         left'' q (inl a) = let p = h.home q l a in let pl : p.0 < length xs = p.1.place in inl (p.0, omega (arith, length-append xs (k ∷ [])), get_or_append_left xs (k ∷ []) 0 p.0 pl ∙ p.1.item)
         left'' q (inr e) = inl (length xs, omega (arith, length-append xs (k ∷ [])), get_or_push xs k 0 (length xs) refl ∙ sym e)
 
-  -- what the code leaves
-  pub front_chained : (e : Ends) → e ≡ get_or ends l no_ends → (r : Option ℕ) → r ≡ option_or e.last (Some k) → (ns : List Node) → ns ≡ with_prev (set nodes k (record { list = Some l; prev = None; next = e.first })) e.first (Some k) → IsChained (set ends l (record { first = Some k; last = r })) ns (set lists l (k ∷ xs))
-  front_chained e is r ri ns ni =
-      let at : e ≡ ends_of xs = is ∙ h.each l ll in
-      let same : ns ≡ fronted = ni ∙ ap (λ (e : Ends). with_prev (set nodes k (record { list = Some l; prev = None; next = e.first })) e.first (Some k)) at in
-      subst (λ (n : List Node). IsChained (set ends l (record { first = Some k; last = r })) n (set lists l (k ∷ xs))) (sym same)
-      (subst (λ (e : Ends). IsChained (set ends l e) fronted (set lists l (k ∷ xs))) (sym (front_ends k xs e r at ri)) (IsChained-edit ends nodes lists h fronted l ll (k ∷ xs) k front_edit))
+  -- the ends that are read
+  module _ (e : Ends) (is : e ≡ get_or ends l e) where
+    e_at : e ≡ get_or ends l no_ends
+    e_at = get_or_read ends l e (subst (λ (z : ℕ). l < z) h.count ll) is no_ends
 
-  pub back_chained : (e : Ends) → e ≡ get_or ends l no_ends → (r : Option ℕ) → r ≡ option_or e.first (Some k) → (ns : List Node) → ns ≡ with_next (set nodes k (record { list = Some l; prev = e.last; next = None })) e.last (Some k) → IsChained (set ends l (record { first = r; last = Some k })) ns (set lists l (xs ++ k ∷ []))
-  back_chained e is r ri ns ni =
-      let at : e ≡ ends_of xs = is ∙ h.each l ll in
-      let same : ns ≡ backed = ni ∙ ap (λ (e : Ends). with_next (set nodes k (record { list = Some l; prev = e.last; next = None })) e.last (Some k)) at in
-      subst (λ (n : List Node). IsChained (set ends l (record { first = r; last = Some k })) n (set lists l (xs ++ k ∷ []))) (sym same)
-      (subst (λ (e : Ends). IsChained (set ends l e) backed (set lists l (xs ++ k ∷ []))) (sym (back_ends k xs e r at ri)) (IsChained-edit ends nodes lists h backed l ll (xs ++ k ∷ []) k back_edit))
+    e_is : e ≡ ends_of xs
+    e_is = e_at ∙ h.each l ll
+
+    exists_at : (o : Option ℕ) (i : ℕ) → o ≡ slice_get xs i → IfSome o (λ q. q < length nodes)
+    exists_at None i at = tt
+    exists_at (Some q) i at = h.within l i q (stands_at i q (sym at))
+
+    pub first_exists : IfSome e.first (λ q. q < length nodes)
+    first_exists = exists_at e.first 0 (ap (λ (e : Ends). e.first) e_is)
+
+    pub last_exists : IfSome e.last (λ q. q < length nodes)
+    last_exists = exists_at e.last (length xs - 1) (ap (λ (e : Ends). e.last) e_is)
+
+    abbrev new : Option ℕ → Option ℕ → Node
+    new p n = record { list = Some l; prev = p; next = n }
+
+    abbrev both : Option ℕ → Option ℕ → Ends
+    both f b = record { first = f; last = b }
+
+    -- what the code leaves
+    pub front_chained : (n s t r : Option ℕ) → n ≡ None → s ≡ Some k → t ≡ Some k → r ≡ option_or e.last (Some k) → (ns : List Node) → ns ≡ with_prev (set nodes k (new n e.first)) e.first s → IsChained (set ends l (both t r)) ns (set lists l (k ∷ xs))
+    front_chained n s t r ni si ti ri ns nsi =
+        let same : ns ≡ fronted = nsi ∙ ap (λ o. with_prev (set nodes k (new o e.first)) e.first s) ni ∙ ap (λ o. with_prev (set nodes k (new None e.first)) e.first o) si ∙ ap (λ (e : Ends). with_prev (set nodes k (new None e.first)) e.first (Some k)) e_is in
+        let ends_are : both t r ≡ ends_of (k ∷ xs) = ap (λ o. both o r) ti ∙ front_ends k xs e r e_is ri in
+        subst (λ (z : List Node). IsChained (set ends l (both t r)) z (set lists l (k ∷ xs))) (sym same)
+        (subst (λ (z : Ends). IsChained (set ends l z) fronted (set lists l (k ∷ xs))) (sym ends_are) (IsChained-edit ends nodes lists h fronted l ll (k ∷ xs) k front_edit))
+
+    pub back_chained : (n s t r : Option ℕ) → n ≡ None → s ≡ Some k → t ≡ Some k → r ≡ option_or e.first (Some k) → (ns : List Node) → ns ≡ with_next (set nodes k (new e.last n)) e.last s → IsChained (set ends l (both r t)) ns (set lists l (xs ++ k ∷ []))
+    back_chained n s t r ni si ti ri ns nsi =
+        let same : ns ≡ backed = nsi ∙ ap (λ o. with_next (set nodes k (new e.last o)) e.last s) ni ∙ ap (λ o. with_next (set nodes k (new e.last None)) e.last o) si ∙ ap (λ (e : Ends). with_next (set nodes k (new e.last None)) e.last (Some k)) e_is in
+        let ends_are : both r t ≡ ends_of (xs ++ k ∷ []) = ap (both r) ti ∙ back_ends k xs e r e_is ri in
+        subst (λ (z : List Node). IsChained (set ends l (both r t)) z (set lists l (xs ++ k ∷ []))) (sym same)
+        (subst (λ (z : Ends). IsChained (set ends l z) backed (set lists l (xs ++ k ∷ []))) (sym ends_are) (IsChained-edit ends nodes lists h backed l ll (xs ++ k ∷ []) k back_edit))

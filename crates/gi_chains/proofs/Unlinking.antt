@@ -2,14 +2,14 @@ use Rattle.std.proofs.Common.{◌≡◌, ◌≢◌, ℕ, zero, suc, ◌+◌, ◌
 use Rattle.std.specs.List.{slice_get, remove}
 use Rattle.std.proofs.lemmas.Bool.{cases_lt, cases_eq, eqb-true}
 use Rattle.std.proofs.lemmas.Option.{slice_get_past, slice_get_within, slice_get-get_or, get_or_from_slice_get}
-use Rattle.std.proofs.lemmas.List.{get_or_default, get_or_append_left, get_or_push}
+use Rattle.std.proofs.lemmas.List.{get_or_read, get_or_default, get_or_append_left, get_or_push}
 use Rattle.std.proofs.lemmas.List.Edits.{length-remove, get_or-remove_below, get_or-remove_above}
 use Rattle.gi_chains.specs.Lists.{Lists, items_at, StandsAt, IsLinked, IsFree, IsApart}
 use Rattle.gi_chains.specs.Links.{blank, no_ends, node_at, with_prev, with_next, walk, walked, before, node_in, ends_of, IsChained}
 use Rattle.gi_chains.specs.declared.node.Node.{Node}
 use Rattle.gi_chains.specs.declared.node.Ends.{Ends}
 use Rattle.gi_chains.proofs.Linking.{slice_get_at, one_list, one_place, free_none, none_free, walked-same}
-use Rattle.gi_chains.specs.Links.{kept_if_some}
+use Rattle.gi_chains.specs.Words.{kept_if_some}
 use Rattle.std.specs.Option.{IfSome}
 use Rattle.gi_chains.proofs.Editing.{IsChained-edit, prev_other, prev_same, next_other, next_same, length-with_prev, length-with_next, IsEdit}
 
@@ -203,29 +203,48 @@ module _ (ends : List Ends) (nodes : List Node) (lists : List (List ℕ)) (h : I
             | inr n ↦ let len = length-remove xs i il in inl (j, (let jl : suc j < length xs = t.place in omega arith), get_or-remove_above xs i 0 j (omega arith) il ∙ ap (λ z. get_or xs z 0) (add-one j) ∙ t.item)
           ]
 
-  abbrev cut_nodes : Node → List Node
-  cut_nodes n = set (with_prev (with_next nodes n.prev n.next) n.next n.prev) k blank
-
   abbrev cut_ends : Node → Ends → Ends
   cut_ends n e = record { first = kept_if_some n.prev e.first n.next; last = kept_if_some n.next e.last n.prev }
 
+  abbrev cut_nodes : Node → List Node
+  cut_nodes n = with_prev (with_next nodes n.prev n.next) n.next n.prev
+
   -- what the code leaves
-  pub cut_chained : (n : Node) → n ≡ node_at nodes k → (m : ℕ) → n.list ≡ Some m → (e : Ends) → e ≡ get_or ends m no_ends → (new : Ends) → new ≡ cut_ends n e → (ns : List Node) → ns ≡ cut_nodes n → IsChained (set ends m new) ns (set lists l (remove xs i))
-  cut_chained n ni m mi e ei new wi ns si =
-      let node : n ≡ node_in l xs i = ni ∙ h.linked l i k s in
-      let list : Some l ≡ Some m = sym (ap (λ (n : Node). n.list) node) ∙ mi in
-      let same : l ≡ m = cc in
-      let at : e ≡ ends_of xs = ei ∙ ap (λ z. get_or ends z no_ends) (sym same) ∙ h.each l s.list in
-      let ends_are : new ≡ ends_of (remove xs i) =
-      wi
-      ∙ ap (λ n. cut_ends n e) node
-      ∙ ap (cut_ends (node_in l xs i)) at
-      ∙ ap (λ o. let z : Ends = record { first = o; last = kept_if_some (slice_get xs (suc i)) (slice_get xs (length xs - 1)) (before xs i) } in z) (first_kept xs i il)
-      ∙ ap (λ o. let z : Ends = record { first = slice_get (remove xs i) 0; last = o } in z) (last_kept xs i il) in
-      let nodes_are : ns ≡ unlinked = si ∙ ap cut_nodes node in
-      subst (λ (z : ℕ). IsChained (set ends z new) ns (set lists l (remove xs i))) same
-      (subst (λ (z : List Node). IsChained (set ends l new) z (set lists l (remove xs i))) (sym nodes_are)
-      (subst (λ (z : Ends). IsChained (set ends l z) unlinked (set lists l (remove xs i))) (sym ends_are) (IsChained-edit ends nodes lists h unlinked l s.list (remove xs i) k unlink_edit)))
+  module _ (n : Node) (ni : n ≡ get_or nodes k n) (d : Node) (m : ℕ) (mi : (get_or nodes k d).list ≡ Some m) (e : Ends) (ei : e ≡ get_or ends m e) where
+    node : n ≡ node_in l xs i
+    node = get_or_read nodes k n kl ni blank ∙ h.linked l i k s
+
+    same : l ≡ m
+    same =
+        let list : Some l ≡ Some m = sym (ap (λ (n : Node). n.list) (get_or_default nodes k d blank kl ∙ h.linked l i k s)) ∙ mi in
+        cc
+
+    at : e ≡ ends_of xs
+    at =
+        let ml : m < length ends = subst (λ z. z < length ends) same (subst (λ z. l < z) h.count s.list) in
+        get_or_read ends m e ml ei no_ends ∙ ap (λ z. get_or ends z no_ends) (sym same) ∙ h.each l s.list
+
+    both : Option ℕ → Option ℕ → Ends
+    both f b = record { first = f; last = b }
+
+    pub cut_chained : (f b p q : Option ℕ) → f ≡ kept_if_some n.prev e.first n.next → b ≡ kept_if_some n.next e.last n.prev → p ≡ None → q ≡ None → (ms ns : List Node) → ms ≡ with_next nodes n.prev n.next → ns ≡ with_prev ms n.next n.prev → IsChained (set ends m (record { first = f; last = b })) (set ns k (record { list = None; prev = p; next = q })) (set lists l (remove xs i))
+    cut_chained f b p q fi bi pi qi ms ns msi nsi =
+        let new : Ends = record { first = f; last = b } in
+        let gone : Option ℕ → Option ℕ → Node = λ p q. record { list = None; prev = p; next = q } in
+        let ends_are : new ≡ ends_of (remove xs i) =
+        ap (λ o. let z : Ends = record { first = o; last = b } in z) fi
+        ∙ ap (λ o. let z : Ends = record { first = kept_if_some n.prev e.first n.next; last = o } in z) bi
+        ∙ ap (λ n. cut_ends n e) node
+        ∙ ap (cut_ends (node_in l xs i)) at
+        ∙ ap (λ o. let z : Ends = record { first = o; last = kept_if_some (slice_get xs (suc i)) (slice_get xs (length xs - 1)) (before xs i) } in z) (first_kept xs i il)
+        ∙ ap (λ o. let z : Ends = record { first = slice_get (remove xs i) 0; last = o } in z) (last_kept xs i il) in
+        let nodes_are : set ns k (gone p q) ≡ unlinked =
+        ap (λ o. set ns k (gone o q)) pi
+        ∙ ap (λ o. set ns k (gone None o)) qi
+        ∙ ap (λ (z : List Node). set z k blank) (nsi ∙ ap (λ (z : List Node). with_prev z n.next n.prev) msi ∙ ap cut_nodes node) in
+        subst (λ (z : ℕ). IsChained (set ends z new) (set ns k (gone p q)) (set lists l (remove xs i))) same
+        (subst (λ (z : List Node). IsChained (set ends l new) z (set lists l (remove xs i))) (sym nodes_are)
+        (subst (λ (z : Ends). IsChained (set ends l z) unlinked (set lists l (remove xs i))) (sym ends_are) (IsChained-edit ends nodes lists h unlinked l s.list (remove xs i) k unlink_edit)))
 
 some_if : (P : ℕ → Type 0) (o : Option ℕ) → ((q : ℕ) → o ≡ Some q → P q) → IfSome o P
 some_if P None h = tt
@@ -235,19 +254,28 @@ module _ (ends : List Ends) (nodes : List Node) (lists : List (List ℕ)) (h : I
   abbrev s : StandsAt lists linked.0 linked.1 k
   s = linked.2
 
-  pub list_is : (node_at nodes k).list ≡ Some linked.0
+  exists : k < length nodes
+  exists = h.within linked.0 linked.1 k s
+
+  list_is : (node_at nodes k).list ≡ Some linked.0
   list_is = ap (λ (n : Node). n.list) (h.linked linked.0 linked.1 k s)
 
-  pub list_exists : (m : ℕ) → (node_at nodes k).list ≡ Some m → m < length ends
-  list_exists m e = let same : linked.0 ≡ m = (let f : Some linked.0 ≡ Some m = sym list_is ∙ e in cc) in subst (λ (z : ℕ). z < length ends) same (subst (λ (z : ℕ). linked.0 < z) h.count s.list)
+  pub list_read : (d : Node) → (get_or nodes k d).list ≡ Some linked.0
+  list_read d = ap (λ (n : Node). n.list) (get_or_default nodes k d blank exists) ∙ list_is
+
+  pub list_exists : (d : Node) (m : ℕ) → (get_or nodes k d).list ≡ Some m → m < length ends
+  list_exists d m e = let same : linked.0 ≡ m = (let f : Some linked.0 ≡ Some m = sym (list_read d) ∙ e in cc) in subst (λ (z : ℕ). z < length ends) same (subst (λ (z : ℕ). linked.0 < z) h.count s.list)
 
   item_exists : (i q : ℕ) → slice_get (items_at lists linked.0) i ≡ Some q → q < length nodes
   item_exists i q e = h.within linked.0 i q (record { list = s.list; place = slice_get_within (items_at lists linked.0) i q e; item = get_or_from_slice_get (items_at lists linked.0) i q 0 e })
 
-  pub prev_exists : IfSome (node_at nodes k).prev (λ q. q < length nodes)
-  prev_exists = some_if (λ q. q < length nodes) (node_at nodes k).prev (λ q e.
-      let b : before (items_at lists linked.0) linked.1 ≡ Some q = ap (λ (n : Node). n.prev) (sym (h.linked linked.0 linked.1 k s)) ∙ e in
+  node_is : (n : Node) → n ≡ get_or nodes k n → n ≡ node_in linked.0 (items_at lists linked.0) linked.1
+  node_is n r = get_or_read nodes k n exists r blank ∙ h.linked linked.0 linked.1 k s
+
+  pub prev_exists : (n : Node) → n ≡ get_or nodes k n → IfSome n.prev (λ q. q < length nodes)
+  prev_exists n r = some_if (λ q. q < length nodes) n.prev (λ q e.
+      let b : before (items_at lists linked.0) linked.1 ≡ Some q = ap (λ (n : Node). n.prev) (sym (node_is n r)) ∙ e in
       let p = before_is (items_at lists linked.0) linked.1 q b in item_exists p.0 q p.2)
 
-  pub next_exists : IfSome (node_at nodes k).next (λ q. q < length nodes)
-  next_exists = some_if (λ q. q < length nodes) (node_at nodes k).next (λ q e. item_exists (suc linked.1) q (ap (λ (n : Node). n.next) (sym (h.linked linked.0 linked.1 k s)) ∙ e))
+  pub next_exists : (n : Node) → n ≡ get_or nodes k n → IfSome n.next (λ q. q < length nodes)
+  next_exists n r = some_if (λ q. q < length nodes) n.next (λ q e. item_exists (suc linked.1) q (ap (λ (n : Node). n.next) (sym (node_is n r)) ∙ e))

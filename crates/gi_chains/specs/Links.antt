@@ -21,10 +21,6 @@ abbrev pub with_next : List Node → Option ℕ → Option ℕ → List Node
 with_next nodes None n = nodes
 with_next nodes (Some k) n = slice_set nodes k (record (node_at nodes k) { next = n })
 
-abbrev pub kept_if_some : Option ℕ → Option ℕ → Option ℕ → Option ℕ
-kept_if_some None kept other = other
-kept_if_some (Some k) kept other = kept
-
 -- the nodes from one on, at most so many
 unfoldable pub walk : List Node → ℕ → Option ℕ → List ℕ
 walk nodes zero at = []

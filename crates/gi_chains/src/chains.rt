@@ -2,6 +2,7 @@ ghost use Rattle.std.specs.Prelude.{◌≡◌, ℕ, ◌+◌, ◌-◌, ◌<◌, �
 ghost use Rattle.gi_chains.specs.Lists.{Lists, items_at, StandsAt, IsLinked, IsFree, IsApart, with_list, grown};
 ghost use Rattle.gi_chains.specs.Links.{blank, no_ends};
 
+use crate::link::Link;
 use crate::node::{Ends, Node, cut, link_back, link_front};
 use std::alloc::{AllocError, Global};
 use std::marker::Model;
@@ -64,7 +65,7 @@ impl Chains {
         requires { list < length self.now.lists }
         ensures { result ≡ slice_get (items_at self.now.lists list) 0 }
     {
-        self.ends[list as usize].first
+        self.ends[list as usize].first.get()
     }
 
     /// The node that follows in the same list; None exactly where the node is the last of its list or in no list.
@@ -73,7 +74,7 @@ impl Chains {
         ensures linked { (l i : ℕ) → StandsAt self.now.lists l i node → result ≡ slice_get (items_at self.now.lists l) (i + 1) }
         ensures free { IsFree self.now.lists node → result ≡ None }
     {
-        self.nodes[node as usize].next
+        self.nodes[node as usize].next.get()
     }
 
     /// The list in which a node stands; None exactly where it is in no list.
@@ -136,8 +137,8 @@ fn add_ends(ends: &mut Vec<Ends>, more: usize)
 {
     for _i in 0..more {
         ends.push_reserved(Ends {
-            first: None,
-            last: None,
+            first: Link::none(),
+            last: Link::none(),
         });
     }
 }
@@ -149,8 +150,8 @@ fn add_nodes(nodes: &mut Vec<Node>, more: usize)
     for _i in 0..more {
         nodes.push_reserved(Node {
             list: None,
-            prev: None,
-            next: None,
+            prev: Link::none(),
+            next: Link::none(),
         });
     }
 }

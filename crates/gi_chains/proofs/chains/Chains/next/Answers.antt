@@ -11,7 +11,8 @@ pub returns-clause-linked : goal.returns-clause-linked
 returns-clause-linked c l i s =
     let within : c.args.node < length c.self.inside.nodes.items = subst (λ (v : Lists). c.args.node < v.nodes) (sym c.self.view_is) c.requires in
     let at : c.index.result.now ≡ node_at c.self.inside.nodes.items c.args.node = get_or_read c.self.inside.nodes.items c.args.node _ within c.index.ensures blank in
-    ap (λ (n : Node). n.next) (at ∙ c.self.invariant.linked l i c.args.node (subst (λ (v : Lists). StandsAt v.lists l i c.args.node) (sym c.self.view_is) s))
+    c.get.ensures
+    ∙ ap (λ (n : Node). n.next) (at ∙ c.self.invariant.linked l i c.args.node (subst (λ (v : Lists). StandsAt v.lists l i c.args.node) (sym c.self.view_is) s))
     ∙ ap (λ (v : Lists). slice_get (items_at v.lists l) (suc i)) c.self.view_is ∙ ap (slice_get (items_at c.args.self.now.lists l)) (sym (add-one i))
 
 pub returns-clause-free : goal.returns-clause-free
@@ -19,4 +20,5 @@ returns-clause-free c f =
     let within : c.args.node < length c.self.inside.nodes.items = subst (λ (v : Lists). c.args.node < v.nodes) (sym c.self.view_is) c.requires in
     let at : c.index.result.now ≡ node_at c.self.inside.nodes.items c.args.node = get_or_read c.self.inside.nodes.items c.args.node _ within c.index.ensures blank in
     let none = none_free _ _ _ c.self.invariant c.args.node (subst (λ (v : Lists). IsFree v.lists c.args.node) (sym c.self.view_is) f) in
-    ap (λ (n : Node). n.next) (at ∙ c.self.invariant.free c.args.node none)
+    c.get.ensures
+    ∙ ap (λ (n : Node). n.next) (at ∙ c.self.invariant.free c.args.node none)
