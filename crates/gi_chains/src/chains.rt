@@ -63,7 +63,8 @@ impl Chains {
     /// The first node of a list; None exactly where the list is empty.
     pub fn first(&self, list: u32) -> Option<u64>
         requires { list < length self.now.lists }
-        ensures { result ≡ slice_get (items_at self.now.lists list) 0 }
+        ensures value { result ≡ slice_get (items_at self.now.lists list) 0 }
+        ensures apart { IsApart self.now }
     {
         self.ends[list as usize].first.get()
     }
@@ -155,3 +156,6 @@ fn add_nodes(nodes: &mut Vec<Node>, more: usize)
         });
     }
 }
+
+#[cfg(test)]
+mod tests;
