@@ -1,8 +1,8 @@
-use Rattle.std.proofs.Common.{◌≡◌, ◌≢◌, ℕ, zero, suc, ◌+◌, ◌-◌, ◌<◌, ◌≤◌, List, [], ◌∷◌, ◌++◌, length, get_or, replicate, refl, sym, ap, ◌∙◌, subst, arith, ◌⊎◌, inl, inr, length-append, Some, None, Option}
+use Rattle.std.proofs.Common.{◌≡◌, ℕ, zero, suc, ◌+◌, ◌<◌, ◌≤◌, List, [], ◌∷◌, ◌++◌, length, get_or, replicate, refl, sym, ap, ◌∙◌, subst, arith, inl, inr, length-append}
 use Rattle.std.proofs.lemmas.Bool.{cases_lt}
-use Rattle.std.proofs.lemmas.List.{length-replicate, get_or_past, get_or_append_left}
-use Rattle.gi_chains.specs.Lists.{Lists, items_at, StandsAt}
-use Rattle.gi_chains.specs.Links.{blank, no_ends, node_at, ends_of, node_in, IsChained}
+use Rattle.std.proofs.lemmas.List.{length-replicate, get_or_past}
+use Rattle.gi_chains.specs.Lists.{items_at, StandsAt}
+use Rattle.gi_chains.specs.Links.{blank, no_ends, ends_of, node_in, IsChained}
 use Rattle.gi_chains.specs.declared.node.Node.{Node}
 use Rattle.gi_chains.specs.declared.node.Ends.{Ends}
 

@@ -1,14 +1,14 @@
-use Rattle.std.proofs.Common.{◌≡◌, ◌≢◌, ℕ, zero, suc, ◌+◌, ◌-◌, ◌<◌, ◌≤◌, Option, Some, None, List, [], ◌∷◌, ◌++◌, length, map, take, drop, get_or, set, refl, sym, ap, ◌∙◌, subst, arith, ◌⊎◌, inl, inr, length-append, length-set, get_or-set_other, get_or-set_same, add-one, Bool, true, false}
+use Rattle.std.proofs.Common.{◌≡◌, ◌≢◌, ℕ, zero, suc, ◌+◌, ◌-◌, ◌<◌, ◌≤◌, Option, Some, None, List, [], ◌∷◌, length, get_or, set, refl, sym, ap, ◌∙◌, subst, arith, ◌⊎◌, inl, inr, length-set, get_or-set_other, get_or-set_same, add-one}
 use Rattle.std.specs.List.{slice_get, remove}
-use Rattle.std.proofs.lemmas.Bool.{cases_lt, cases_eq, eqb-true}
-use Rattle.std.proofs.lemmas.Option.{slice_get_past, slice_get_within, slice_get-get_or, get_or_from_slice_get}
-use Rattle.std.proofs.lemmas.List.{get_or_read, get_or_default, get_or_append_left, get_or_push}
+use Rattle.std.proofs.lemmas.Bool.{cases_lt, cases_eq}
+use Rattle.std.proofs.lemmas.Option.{slice_get_past, slice_get_within, get_or_from_slice_get}
+use Rattle.std.proofs.lemmas.List.{get_or_read, get_or_default}
 use Rattle.std.proofs.lemmas.List.Edits.{length-remove, get_or-remove_below, get_or-remove_above}
-use Rattle.gi_chains.specs.Lists.{Lists, items_at, StandsAt, IsLinked, IsFree, IsApart}
-use Rattle.gi_chains.specs.Links.{blank, no_ends, node_at, with_prev, with_next, walk, walked, before, node_in, ends_of, IsChained}
+use Rattle.gi_chains.specs.Lists.{items_at, StandsAt, IsLinked}
+use Rattle.gi_chains.specs.Links.{blank, no_ends, node_at, with_prev, with_next, before, node_in, ends_of, IsChained}
 use Rattle.gi_chains.specs.declared.node.Node.{Node}
 use Rattle.gi_chains.specs.declared.node.Ends.{Ends}
-use Rattle.gi_chains.proofs.Linking.{slice_get_at, one_list, one_place, free_none, none_free, walked-same}
+use Rattle.gi_chains.proofs.Linking.{slice_get_at, one_place}
 use Rattle.gi_chains.specs.Words.{kept_if_some}
 use Rattle.std.specs.Option.{IfSome}
 use Rattle.gi_chains.proofs.Editing.{IsChained-edit, prev_other, prev_same, next_other, next_same, length-with_prev, length-with_next, IsEdit}

@@ -1,4 +1,4 @@
-use Rattle.std.specs.Prelude.{◌≡◌, ℕ, zero, suc, ◌+◌, ◌-◌, ◌<◌, List, [], ◌∷◌, Option, Some, None, length, map, slice_get, slice_index_or, slice_set}
+use Rattle.std.specs.Prelude.{◌≡◌, ℕ, zero, suc, ◌-◌, ◌<◌, List, [], ◌∷◌, Option, Some, None, length, map, slice_get, slice_index_or, slice_set}
 use Rattle.gi_chains.specs.Lists.{items_at, StandsAt}
 use Rattle.gi_chains.specs.declared.node.Node.{Node}
 use Rattle.gi_chains.specs.declared.node.Ends.{Ends}

@@ -1,4 +1,4 @@
-use Rattle.std.specs.Prelude.{◌≡◌, ℕ, ◌+◌, ◌-◌, ◌<◌, List, [], ◌++◌, length, max, replicate, slice_index, slice_index_or, slice_set}
+use Rattle.std.specs.Prelude.{◌≡◌, ℕ, ◌-◌, ◌<◌, List, [], ◌++◌, length, max, replicate, slice_index, slice_index_or, slice_set}
 
 -- what contracts see of the chains: the lists, each from its first node on, and how many nodes there are
 pub record Lists : Type 0 where

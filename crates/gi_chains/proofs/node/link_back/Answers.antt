@@ -1,4 +1,4 @@
-use Rattle.std.proofs.Common.{ap, length-set, ◌<◌, sym, ◌∙◌, subst}
+use Rattle.std.proofs.Common.{length-set, ◌<◌, sym, subst}
 use Rattle.std.specs.Option.{IfSome}
 use Rattle.gi_chains.proofs.Pushing.{back_chained, last_exists}
 use Rattle.gi_chains.proofs.node.link_back.Goals as goal

@@ -1,4 +1,4 @@
-use Rattle.std.proofs.Common.{◌≡◌, ◌≤◌, ◌+◌, ◌-◌, ◌++◌, arith, length, ap, sym, ◌∙◌, replicate, length-append, ℕ, List, [], max, refl, Option, Some, None}
+use Rattle.std.proofs.Common.{◌≡◌, ◌-◌, ◌++◌, arith, length, ap, sym, ◌∙◌, replicate, length-append, ℕ, [], refl, Option, Some, None}
 use Rattle.std.specs.Option.{SomeIff}
 use Rattle.std.proofs.lemmas.List.{length-replicate}
 use Rattle.std.proofs.Common.{subst}

@@ -1,7 +1,7 @@
-use Rattle.std.proofs.Common.{◌≡◌, ◌<◌, sym, ap, ◌∙◌, subst, length, ℕ, List, [], add-one, None}
+use Rattle.std.proofs.Common.{◌≡◌, ◌<◌, sym, ap, subst, length, ℕ}
 use Rattle.std.proofs.lemmas.List.{get_or_read}
 use Rattle.std.specs.Option.{MatchOption}
-use Rattle.gi_chains.specs.Lists.{Lists, items_at, StandsAt, IsFree, IsApart}
+use Rattle.gi_chains.specs.Lists.{Lists, StandsAt, IsFree, IsApart}
 use Rattle.gi_chains.specs.Links.{node_at, blank}
 use Rattle.gi_chains.specs.declared.node.Node.{Node}
 use Rattle.gi_chains.proofs.Linking.{apart, read_list}

@@ -1,6 +1,6 @@
 use Rattle.std.proofs.Common.{◌≡◌, ◌<◌, sym, ap, ◌∙◌, subst, length, length-set, ℕ, Some, List, ◌∷◌, set}
 use Rattle.std.specs.List.{remove}
-use Rattle.gi_chains.specs.Lists.{Lists, items_at, StandsAt, IsFree, IsApart}
+use Rattle.gi_chains.specs.Lists.{Lists, items_at, IsFree, IsApart}
 use Rattle.gi_chains.proofs.Linking.{apart, own_list}
 use Rattle.gi_chains.proofs.Moving.{IsFree-unlinked, moved}
 use Rattle.gi_chains.proofs.chains.Chains.move_to_front.Goals as goal

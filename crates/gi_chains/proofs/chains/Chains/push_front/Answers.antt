@@ -1,4 +1,4 @@
-use Rattle.std.proofs.Common.{◌≡◌, ◌<◌, sym, ap, ◌∙◌, subst, length, ℕ, List, [], ◌∷◌, ◌++◌, set, arith}
+use Rattle.std.proofs.Common.{ap, ◌∙◌, length, ℕ, List, ◌∷◌, set}
 use Rattle.std.proofs.lemmas.List.{with_items_is}
 use Rattle.gi_chains.specs.Links.{walked}
 use Rattle.gi_chains.specs.Lists.{Lists, items_at}

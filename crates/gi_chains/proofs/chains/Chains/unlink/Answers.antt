@@ -1,4 +1,4 @@
-use Rattle.std.proofs.Common.{◌≡◌, ◌<◌, sym, ap, ◌∙◌, subst, length, ℕ, List, [], ◌∷◌, ◌++◌, set, arith}
+use Rattle.std.proofs.Common.{◌≡◌, sym, ap, ◌∙◌, subst, length, ℕ, List, set}
 use Rattle.std.specs.List.{remove}
 use Rattle.std.proofs.lemmas.List.{with_items_is}
 use Rattle.gi_chains.specs.Links.{walked}

@@ -1,4 +1,4 @@
-use Rattle.std.proofs.Common.{◌≡◌, ◌<◌, ℕ, List, [], ◌∷◌, refl, ap, sym, ◌∙◌, subst, length, lit<}
+use Rattle.std.proofs.Common.{◌≡◌, ◌<◌, ℕ, [], ◌∷◌, refl, ap, sym, ◌∙◌, subst, length, lit<}
 use Rattle.std.specs.List.{remove}
 use Rattle.gi_chains.specs.Lists.{Lists, items_at, StandsAt, with_list}
 use Rattle.gi_chains.proofs.chains.tests.lists_keep_their_order.Goals as goal

@@ -1,4 +1,4 @@
-use Rattle.std.proofs.Common.{◌≡◌, ◌<◌, ◌≤◌, ℕ, suc, None, Some, List, [], ◌∷◌, ◌++◌, inl, inr, ap, sym, ◌∙◌, arith, length, length-append, take, get_or, add-one}
+use Rattle.std.proofs.Common.{◌≡◌, ℕ, suc, None, Some, List, [], ◌∷◌, ◌++◌, inl, inr, ap, sym, ◌∙◌, arith, length, length-append, take, add-one}
 use Rattle.std.specs.List.{slice_get}
 use Rattle.std.proofs.Math.Seq.{take-suc}
 use Rattle.std.proofs.lemmas.Bool.{cases_lt}
@@ -32,12 +32,12 @@ nodes-preserved c =
     record {
       visited = visited_more _ _ _ _ c.nodes.invariant.visited e c.in_ok-push.ensures.items;
       here =
-        c.next-at.ensures.linked c.args.list (length c.nodes.visited.items) (record {
-          list = c.requires;
-          place = slice_get_within _ _ _ e;
-          item = get_or_from_slice_get (items_at c.args.chains.now.lists c.args.list) (length c.nodes.visited.items) _ 0 e;
-        })
-        ∙ ap (slice_get (items_at c.args.chains.now.lists c.args.list)) (add-one (length c.nodes.visited.items) ∙ sym (ap length c.in_ok-push.ensures.items ∙ length-push c.nodes.visited.items c.in-Some.node));
+          c.next-at.ensures.linked c.args.list (length c.nodes.visited.items) (record {
+            list = c.requires;
+            place = slice_get_within _ _ _ e;
+            item = get_or_from_slice_get (items_at c.args.chains.now.lists c.args.list) (length c.nodes.visited.items) _ 0 e;
+          })
+          ∙ ap (slice_get (items_at c.args.chains.now.lists c.args.list)) (add-one (length c.nodes.visited.items) ∙ sym (ap length c.in_ok-push.ensures.items ∙ length-push c.nodes.visited.items c.in-Some.node));
       apart = c.nodes.invariant.apart;
     }
 

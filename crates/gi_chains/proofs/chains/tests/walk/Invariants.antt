@@ -1,4 +1,4 @@
-use Rattle.std.proofs.Common.{◌≡◌, ◌≤◌, ◌-◌, ℕ, length, take}
+use Rattle.std.proofs.Common.{◌≡◌, ◌-◌, length, take}
 use Rattle.std.specs.Prelude.{slice_get}
 use Rattle.gi_chains.specs.Lists.{items_at, IsApart}
 use Rattle.gi_chains.proofs.chains.tests.walk.Given as goal
