@@ -7,16 +7,20 @@ use Rattle.gi_chains.specs.declared.node.Ends.{Ends}
 abbrev pub blank : Node
 blank = record { list = None; prev = None; next = None }
 
+-- the ends of an empty list
 abbrev pub no_ends : Ends
 no_ends = record { first = None; last = None }
 
+-- what is kept of a node; of one that is not there, as of a node in no list
 abbrev pub node_at : List Node → ℕ → Node
 node_at nodes k = slice_index_or nodes k blank
 
+-- the node, if any, is told which one stands before it
 abbrev pub with_prev : List Node → Option ℕ → Option ℕ → List Node
 with_prev nodes None p = nodes
 with_prev nodes (Some k) p = slice_set nodes k (record (node_at nodes k) { prev = p })
 
+-- the node, if any, is told which one follows
 abbrev pub with_next : List Node → Option ℕ → Option ℕ → List Node
 with_next nodes None n = nodes
 with_next nodes (Some k) n = slice_set nodes k (record (node_at nodes k) { next = n })
@@ -27,10 +31,11 @@ walk nodes zero at = []
 walk nodes (suc most) None = []
 walk nodes (suc most) (Some k) = k ∷ walk nodes most (node_at nodes k).next
 
--- the lists
+-- the lists, each walked from its first node
 abbrev pub walked : List Ends → List Node → List (List ℕ)
 walked ends nodes = map (λ (e : Ends). walk nodes (length nodes) e.first) ends
 
+-- what stands before place i
 abbrev pub before : List ℕ → ℕ → Option ℕ
 before xs zero = None
 before xs (suc i) = slice_get xs i
@@ -39,6 +44,7 @@ before xs (suc i) = slice_get xs i
 abbrev pub node_in : ℕ → List ℕ → ℕ → Node
 node_in l xs i = record { list = Some l; prev = before xs i; next = slice_get xs (suc i) }
 
+-- the first and the last of a list
 abbrev pub ends_of : List ℕ → Ends
 ends_of xs = record { first = slice_get xs 0; last = slice_get xs (length xs - 1) }
 

@@ -5,10 +5,12 @@ abbrev pub link_of : ℕ → Option ℕ
 link_of zero = None
 link_of (suc k) = Some k
 
+-- the word that says it
 abbrev pub word_of : Option ℕ → ℕ
 word_of None = zero
 word_of (Some k) = suc k
 
+-- no two words say the same
 pub word_of-link_of : (w : ℕ) → word_of (link_of w) ≡ w
 word_of-link_of zero = λ i. zero
 word_of-link_of (suc k) = λ i. suc k

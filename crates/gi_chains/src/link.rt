@@ -24,12 +24,14 @@ impl Model for Link {
 }
 
 impl Link {
+    /// No node.
     pub fn none() -> Link
         ensures { result ≡ None }
     {
         Link { word: 0 }
     }
 
+    /// A node.
     pub fn to(node: u64) -> Link
         requires { node + 1 < 2 ^ 64 }
         ensures { result ≡ Some node }
@@ -37,13 +39,14 @@ impl Link {
         Link { word: node + 1 }
     }
 
+    /// The node's number, if there is one.
     pub fn get(self) -> Option<u64>
         ensures { result ≡ self }
     {
         self.word.checked_sub(1)
     }
 
-    /// The node, where the link is none.
+    /// This link, or the node where it is none.
     pub fn or(self, node: u64) -> Link
         requires { node + 1 < 2 ^ 64 }
         ensures { result ≡ option_or self (Some node) }

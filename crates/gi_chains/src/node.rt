@@ -4,7 +4,7 @@ ghost use Rattle.gi_chains.specs.Links.{with_prev, with_next, walked, IsChained}
 
 use crate::link::Link;
 
-/// Where a node stands.
+/// The list in which a node stands, and its neighbours there.
 #[derive(Clone, Copy, Debug)]
 pub(crate) struct Node {
     pub list: Option<u32>,
