@@ -8,3 +8,6 @@ pub mod Replies
 pub mod Work
 pub mod Tests
 pub mod History
+pub mod Kept
+pub mod Laws
+pub mod Told

@@ -4,6 +4,7 @@
 mod calls;
 mod check;
 mod entry;
+mod laws;
 mod phase;
 mod refusal;
 mod replies;
@@ -11,6 +12,10 @@ mod replies;
 pub use calls::Call;
 pub use check::check_model;
 pub use entry::EntryRef;
+pub use laws::{
+    calls_may_come, guards_are_clean, histories_are_kept, histories_go_on, learnt_clauses_are_told,
+    reasons_show, refusals_are_named,
+};
 pub use phase::Phase;
 pub use refusal::Refusal;
 pub use replies::{Cause, Now, Reply, Status, Verdict, Why};
