@@ -32,19 +32,19 @@ status_inside (running r) e h = h
 status_inside (paused r) e h = h
 status_inside (ended n w) e h = h
 
-some_pausing : (v : Solve) → is_none_yet v ≡ false → is_none_yet (pausing v) ≡ false
+pub some_pausing : (v : Solve) → is_none_yet v ≡ false → is_none_yet (pausing v) ≡ false
 some_pausing no_solve e = e
 some_pausing (running r) e = refl
 some_pausing (paused r) e = refl
 some_pausing (ended n v) e = refl
 
-some_resuming : (v : Solve) → is_none_yet v ≡ false → is_none_yet (resuming v) ≡ false
+pub some_resuming : (v : Solve) → is_none_yet v ≡ false → is_none_yet (resuming v) ≡ false
 some_resuming no_solve e = e
 some_resuming (running r) e = refl
 some_resuming (paused r) e = refl
 some_resuming (ended n v) e = refl
 
-some_stopping : (v : Solve) → is_none_yet v ≡ false → is_none_yet (stopping v) ≡ false
+pub some_stopping : (v : Solve) → is_none_yet v ≡ false → is_none_yet (stopping v) ≡ false
 some_stopping no_solve e = e
 some_stopping (running r) e = refl
 some_stopping (paused r) e = refl

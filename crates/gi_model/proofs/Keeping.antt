@@ -271,7 +271,7 @@ pub fresh_implied : (p : Problem) (known news : List (List ℕ)) → AreFresh p 
 fresh_implied p known [] h = All-nil (IsImplied p)
 fresh_implied p known (c ∷ cs) h = All-cons (IsImplied p) c cs h.0.implied (fresh_implied p (known ++ c ∷ []) cs h.2)
 
-fresh_live : (p : Problem) (known news : List (List ℕ)) → IsWellFormed p → AreFresh p known news → All (λ c. All (λ l. IsLiveVar p (l / 2)) c) news
+pub fresh_live : (p : Problem) (known news : List (List ℕ)) → IsWellFormed p → AreFresh p known news → All (λ c. All (λ l. IsLiveVar p (l / 2)) c) news
 fresh_live p known [] k h = All-nil (λ c. All (λ l. IsLiveVar p (l / 2)) c)
 fresh_live p known (c ∷ cs) k h = All-cons (λ c. All (λ l. IsLiveVar p (l / 2)) c) c cs (λ i d lt. live (get_or c i d / 2) (h.0.within i d lt)) (fresh_live p (known ++ c ∷ []) cs k h.2)
   where

@@ -6,3 +6,6 @@ pub mod Clean
 pub mod Telling
 pub mod Reasoning
 pub mod Entering
+pub mod Stepping
+pub mod Codes
+pub mod Bounding

@@ -11,3 +11,4 @@ pub mod History
 pub mod Kept
 pub mod Laws
 pub mod Told
+pub mod Bound

@@ -1,6 +1,7 @@
 //! Laws over the definitions: each is the contract of a function that does nothing.
 
 ghost use Rattle.gi_model.specs.Laws.{HistoriesAreKept, KnownIsImplied, KnownIsTold, SpentIsTold, GuardsAreClean, ReasonsShow, RefusalsAreNamed, IsNeverAnswered, CallsMayCome, HistoriesGoOn, StatesGoOn};
+ghost use Rattle.gi_model.specs.Bound.{SolvesAreShort};
 ghost use Rattle.gi_model.specs.declared.replies.Reply.TheVariants as reply;
 ghost use Rattle.gi_model.specs.declared.refusal.Refusal.TheVariants as refusal;
 
@@ -44,4 +45,9 @@ pub fn calls_may_come()
 pub fn histories_go_on()
     ensures legal { HistoriesGoOn }
     ensures state { StatesGoOn }
+{}
+
+/// Over n variables a solve learns at most 3^n clauses, while no edit is accepted.
+pub fn solves_are_short()
+    ensures { SolvesAreShort }
 {}

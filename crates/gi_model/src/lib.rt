@@ -8,13 +8,15 @@ mod laws;
 mod phase;
 mod refusal;
 mod replies;
+#[cfg(test)]
+mod tests;
 
 pub use calls::Call;
 pub use check::check_model;
 pub use entry::EntryRef;
 pub use laws::{
     calls_may_come, guards_are_clean, histories_are_kept, histories_go_on, learnt_clauses_are_told,
-    reasons_show, refusals_are_named,
+    reasons_show, refusals_are_named, solves_are_short,
 };
 pub use phase::Phase;
 pub use refusal::Refusal;
