@@ -1,0 +1,4 @@
+pub mod Listing
+pub mod Reading
+pub mod Sources
+pub mod Writing

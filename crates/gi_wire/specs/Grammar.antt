@@ -1,0 +1,91 @@
+-- The grammar of lines, by their words.
+use Rattle.std.specs.Prelude.{ℕ, zero, ℤ, pos, negsuc, nat_abs, Bool, true, false, ◌&&◌, nat_le, List, [], ◌∷◌, if◌then◌else◌, Option, Some, None, option_map, codes}
+use Rattle.std.specs.Str.{bytes_eq}
+use Rattle.gi_lit.specs.Literals.{literal_of}
+use Rattle.gi_model.specs.declared.calls.Call.{Call}
+use Rattle.gi_model.specs.declared.calls.Call.TheVariants.{Vars, Add, NewGuard, Under, DropGuard, Assume, Test, Untest, Reasons, Solve, Pause, Resume, Stop, Poll, Wait, Model, Known, KnownClause, Bye}
+use Rattle.gi_text.specs.Numbers.{number_of}
+
+-- a number without a sign, within these bounds
+abbrev pub within : ℕ → ℕ → Option ℤ → Option ℕ
+within least most None = None
+within least most (Some (pos n)) = if nat_le least n && nat_le n most then Some n else None
+within least most (Some (negsuc n)) = None
+
+abbrev pub count_at : ℕ → ℕ → List ℕ → Option ℕ
+count_at least most word = within least most (number_of word)
+
+-- a variable's number, which names a guard
+abbrev pub guard_at : List ℕ → Option ℕ
+guard_at word = count_at 1 1048576 word
+
+-- a variable's number, or its negation
+abbrev pub literal_in : Option ℤ → Option ℕ
+literal_in None = None
+literal_in (Some z) = if nat_le 1 (nat_abs z) && nat_le (nat_abs z) 1048576 then Some (literal_of z) else None
+
+abbrev pub literal_at : List ℕ → Option ℕ
+literal_at word = literal_in (number_of word)
+
+abbrev pub is_zero : Option ℤ → Bool
+is_zero None = false
+is_zero (Some (pos zero)) = true
+is_zero (Some z) = false
+
+-- a list ends with the line
+abbrev pub ended : List (List ℕ) → Option (List ℕ)
+ended [] = Some []
+ended (word ∷ words) = None
+
+abbrev pub led_by : Option ℕ → Option (List ℕ) → Option (List ℕ)
+led_by None list = None
+led_by (Some l) list = option_map (λ ls. l ∷ ls) list
+
+-- literals, and then a 0 as the last word
+unfoldable pub list_at : List (List ℕ) → Option (List ℕ)
+list_at [] = None
+list_at (word ∷ words) = if is_zero (number_of word) then ended words else led_by (literal_at word) (list_at words)
+
+-- a call that is its name alone; a solve without a budget has the greatest
+unfoldable pub call_alone : List ℕ → Option Call
+call_alone name = if bytes_eq name (codes "solve") then Some (Solve 4294967295)
+    else if bytes_eq name (codes "wait") then Some Wait
+    else if bytes_eq name (codes "model") then Some Model
+    else if bytes_eq name (codes "poll") then Some Poll
+    else if bytes_eq name (codes "pause") then Some Pause
+    else if bytes_eq name (codes "resume") then Some Resume
+    else if bytes_eq name (codes "stop") then Some Stop
+    else if bytes_eq name (codes "test") then Some Test
+    else if bytes_eq name (codes "untest") then Some Untest
+    else if bytes_eq name (codes "guard") then Some NewGuard
+    else if bytes_eq name (codes "known") then Some Known
+    else if bytes_eq name (codes "bye") then Some Bye else None
+
+-- a call with one number
+unfoldable pub call_with : List ℕ → List ℕ → Option Call
+call_with name word = if bytes_eq name (codes "vars") then option_map Vars (count_at 0 1048576 word)
+    else if bytes_eq name (codes "drop") then option_map DropGuard (guard_at word)
+    else if bytes_eq name (codes "reasons") then option_map Reasons (literal_at word)
+    else if bytes_eq name (codes "solve") then option_map Solve (count_at 1 4294967295 word)
+    else if bytes_eq name (codes "clause") then option_map KnownClause (count_at 1 4294967295 word) else None
+
+abbrev pub under_guard : Option ℕ → Option (List ℕ) → Option Call
+under_guard None list = None
+under_guard (Some g) list = option_map (Under g) list
+
+-- a guard and a list
+abbrev pub under_of : List (List ℕ) → Option Call
+under_of [] = None
+under_of (word ∷ words) = under_guard (guard_at word) (list_at words)
+
+abbrev pub short_call : List ℕ → List (List ℕ) → Option Call
+short_call name [] = call_alone name
+short_call name (word ∷ []) = call_with name word
+short_call name (word ∷ other ∷ words) = None
+
+-- the call that a line of these words asks for
+unfoldable pub call_of : List (List ℕ) → Option Call
+call_of [] = None
+call_of (name ∷ words) = if bytes_eq name (codes "add") then option_map Add (list_at words)
+    else if bytes_eq name (codes "assume") then option_map Assume (list_at words)
+    else if bytes_eq name (codes "under") then under_of words else short_call name words

@@ -1,0 +1,10 @@
+pub mod Sent
+pub mod Outbox
+pub mod Literals
+pub mod Text
+pub mod Grammar
+pub mod CallRead
+pub mod Items
+pub mod Source
+pub mod Gives
+pub mod Holds

@@ -1,0 +1,212 @@
+// Calls, read from lines.
+ghost use Rattle.std.specs.Prelude.{◌≡◌, ◌≤◌, true, IfOk, IfSome};
+ghost use Rattle.gi_model.specs.Fits.{fits};
+ghost use Rattle.gi_text.specs.Numbers.{number_of};
+ghost use Rattle.gi_text.specs.Words.{words_of};
+ghost use Rattle.gi_wire.specs.CallRead.{ReadsCall};
+ghost use Rattle.gi_wire.specs.Grammar.{call_alone, call_of, call_with, count_at, guard_at, is_zero, list_at, literal_at, short_call, under_of};
+
+use gi_lit::{Lit, Lits, MAX_VAR, Var};
+use gi_model::Call;
+use gi_text::{Number, Words, read_number};
+use std::alloc::{AllocError, Global};
+
+/// What a line asks for.
+#[derive(Debug, Drop)]
+pub enum CallRead {
+    Call(Call),
+    /// The line isn't in the grammar.
+    Syntax,
+    /// There was no memory for the call's list of literals.
+    NoMemory,
+}
+
+/// The call that a line asks for, by its words: white bytes before, between and after them don't
+/// matter. `Syntax` comes exactly where the grammar doesn't have the line.
+pub fn read_call(alloc: Global, line: &[u8]) -> CallRead
+    ensures { ReadsCall result (call_of (words_of line.now)) }
+{
+    match call_in(alloc, Words::new(line)) {
+        Ok(Some(call)) => CallRead::Call(call),
+        Ok(None) => CallRead::Syntax,
+        Err(_) => CallRead::NoMemory,
+    }
+}
+
+// The call that these words ask for.
+#[tactic(auto, unfolding(crate::specs::Grammar::call_of))]
+fn call_in(alloc: Global, mut words: Words) -> Result<Option<Call>, AllocError>
+    ensures call { IfOk result (λ call. call ≡ call_of words.entry) }
+    ensures fits { IfOk result (λ call. IfSome call (λ c. fits c ≡ true)) }
+{
+    match words.next() {
+        None => Ok(None),
+        Some(name) => {
+            if name == b"add".as_slice() {
+                return Ok(read_list(alloc, words)?.map(Call::Add));
+            }
+            if name == b"assume".as_slice() {
+                return Ok(read_list(alloc, words)?.map(Call::Assume));
+            }
+            if name == b"under".as_slice() {
+                return read_under(alloc, words);
+            }
+            Ok(read_short(name, words))
+        }
+    }
+}
+
+// A guard, and a list of literals.
+fn read_under(alloc: Global, mut words: Words) -> Result<Option<Call>, AllocError>
+    ensures call { IfOk result (λ call. call ≡ under_of words.entry) }
+    ensures fits { IfOk result (λ call. IfSome call (λ c. fits c ≡ true)) }
+{
+    match words.next() {
+        None => Ok(None),
+        Some(word) => match read_guard(word) {
+            None => Ok(None),
+            Some(guard) => match read_list(alloc, words)? {
+                None => Ok(None),
+                Some(clause) => Ok(Some(Call::Under(guard, clause))),
+            },
+        },
+    }
+}
+
+// Literals, and then a 0 as the last word.
+#[tactic(auto, unfolding(crate::specs::Grammar::list_at))]
+fn read_list(alloc: Global, mut words: Words) -> Result<Option<Lits>, AllocError>
+    ensures { IfOk result (λ list. list ≡ list_at words.entry) }
+{
+    let mut list = Lits::new(alloc);
+    'words: while let Some(word) = words.next() {
+        if is_end(word) {
+            return Ok(match words.next() {
+                None => Some(list),
+                Some(_) => None,
+            });
+        }
+        match read_literal(word) {
+            Some(literal) => list.push(literal)?,
+            None => return Ok(None),
+        }
+    }
+    Ok(None)
+}
+
+// A call with at most one word behind its name.
+fn read_short(name: &[u8], mut words: Words) -> Option<Call>
+    ensures call { result ≡ short_call name.now words.entry }
+    ensures fits { IfSome result (λ c. fits c ≡ true) }
+{
+    match words.next() {
+        None => read_alone(name),
+        Some(word) => match words.next() {
+            None => read_with(name, word),
+            Some(_) => None,
+        },
+    }
+}
+
+// A call that is its name alone.
+#[tactic(auto, unfolding(crate::specs::Grammar::call_alone))]
+fn read_alone(name: &[u8]) -> Option<Call>
+    ensures call { result ≡ call_alone name.now }
+    ensures fits { IfSome result (λ c. fits c ≡ true) }
+{
+    if name == b"solve".as_slice() {
+        return Some(Call::Solve(u32::MAX));
+    }
+    if name == b"wait".as_slice() {
+        return Some(Call::Wait);
+    }
+    if name == b"model".as_slice() {
+        return Some(Call::Model);
+    }
+    if name == b"poll".as_slice() {
+        return Some(Call::Poll);
+    }
+    if name == b"pause".as_slice() {
+        return Some(Call::Pause);
+    }
+    if name == b"resume".as_slice() {
+        return Some(Call::Resume);
+    }
+    if name == b"stop".as_slice() {
+        return Some(Call::Stop);
+    }
+    if name == b"test".as_slice() {
+        return Some(Call::Test);
+    }
+    if name == b"untest".as_slice() {
+        return Some(Call::Untest);
+    }
+    if name == b"guard".as_slice() {
+        return Some(Call::NewGuard);
+    }
+    if name == b"known".as_slice() {
+        return Some(Call::Known);
+    }
+    if name == b"bye".as_slice() {
+        return Some(Call::Bye);
+    }
+    None
+}
+
+// A call with one number.
+#[tactic(auto, unfolding(crate::specs::Grammar::call_with))]
+fn read_with(name: &[u8], word: &[u8]) -> Option<Call>
+    ensures call { result ≡ call_with name.now word.now }
+    ensures fits { IfSome result (λ c. fits c ≡ true) }
+{
+    if name == b"vars".as_slice() {
+        return Some(Call::Vars(read_count(word, 0, MAX_VAR)?));
+    }
+    if name == b"drop".as_slice() {
+        return Some(Call::DropGuard(read_guard(word)?));
+    }
+    if name == b"reasons".as_slice() {
+        return Some(Call::Reasons(read_literal(word)?));
+    }
+    if name == b"solve".as_slice() {
+        return Some(Call::Solve(read_count(word, 1, u32::MAX)?));
+    }
+    if name == b"clause".as_slice() {
+        return Some(Call::KnownClause(read_count(word, 1, u32::MAX)?));
+    }
+    None
+}
+
+// A number without a sign, within these bounds.
+fn read_count(word: &[u8], least: u32, most: u32) -> Option<u32>
+    ensures value { result ≡ count_at least most word.now }
+    ensures bounds { IfSome result (λ n. (least ≤ n) × (n ≤ most)) }
+{
+    match read_number(word) {
+        Number::Value(n) if n >= i64::from(least) && n <= i64::from(most) => Some(n as u32),
+        _ => None,
+    }
+}
+
+// Whether the word ends a list: the number 0, with any zeros in front.
+fn is_end(word: &[u8]) -> bool
+    ensures { result ≡ is_zero (number_of word.now) }
+{
+    matches!(read_number(word), Number::Value(0))
+}
+
+// A guard, by its variable.
+fn read_guard(word: &[u8]) -> Option<Var>
+    ensures { result ≡ guard_at word.now }
+{
+    Var::new(read_count(word, 1, MAX_VAR)?)
+}
+
+fn read_literal(word: &[u8]) -> Option<Lit>
+    ensures { result ≡ literal_at word.now }
+{
+    match read_number(word) {
+        Number::Value(n) if n.unsigned_abs() <= u64::from(MAX_VAR) => Lit::from_dimacs(n as i32),
+        _ => None,
+    }
+}

@@ -1,0 +1,14 @@
+//! The line protocol: the calls that lines ask for, and the lines that answer them.
+#![tactic(auto)]
+
+mod call;
+mod literals;
+mod outbox;
+mod reader;
+mod reply;
+mod sent;
+
+pub use call::{CallRead, read_call};
+pub use reader::{Asked, Given, Item, Reader};
+pub use reply::write_reply;
+pub use sent::Sent;

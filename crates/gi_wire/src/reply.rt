@@ -1,0 +1,114 @@
+// The lines that answer.
+ghost use Rattle.std.specs.Prelude.{◌≡◌, ◌++◌, ℕ, List, [], true, decimal};
+ghost use Rattle.gi_outside.specs.World.{World, Wrote, WroteCut};
+ghost use Rattle.gi_wire.specs.Literals.{list_text};
+ghost use Rattle.gi_wire.specs.Outbox.{Stands};
+ghost use Rattle.gi_wire.specs.Sent.{MatchSent};
+ghost use Rattle.gi_wire.specs.Text.{is_answer, status_text, text, words_text};
+
+use crate::literals::put_literals;
+use crate::outbox::Outbox;
+use crate::sent::Sent;
+use gi_lit::Lits;
+use gi_model::{Reply, Status, Why};
+use gi_outside::Link;
+use gi_text::Digits;
+
+/// Writes the line that answers the line of this number. The text is gathered in a buffer of 4,096
+/// bytes, which is written when it is full and at the end; this takes no memory. After `Failed` a
+/// front of the text was written that lacks its last byte, and the link's count of failed writes rose.
+pub fn write_reply<L: Link>(line: u64, reply: &Reply, link: &mut L) -> Sent
+    requires { is_answer reply.now ≡ true }
+    ensures { MatchSent result (Wrote (L.state link.old) (L.state link.new) (text line reply.now))
+        (WroteCut (L.state link.old) (L.state link.new) (text line reply.now)) }
+{
+    let mut outbox = Outbox::new();
+    put_answer(&mut outbox, line, reply, link);
+    outbox.finish(link)
+}
+
+// Puts the line into an empty outbox.
+#[tactic(auto, unfolding(crate::specs::Text::text))]
+fn put_answer<L: Link>(outbox: &mut Outbox, line: u64, reply: &Reply, link: &mut L)
+    ensures { (start : World) → Stands start (L.state link.old) outbox.old []
+        → Stands start (L.state link.new) outbox.new (text line reply.now) }
+{
+    put_reply(outbox, line, reply, link);
+    outbox.put(b"\n", link);
+}
+
+#[tactic(auto, unfolding(crate::specs::Text::words_text))]
+fn put_reply<L: Link>(outbox: &mut Outbox, line: u64, reply: &Reply, link: &mut L)
+    ensures { (start : World) → Stands start (L.state link.old) outbox.old []
+        → Stands start (L.state link.new) outbox.new (words_text line reply.now) }
+{
+    match reply {
+        Reply::Done => outbox.put(b"ok", link),
+        Reply::Vars(n) => put_numbered(outbox, b"vars ", u64::from(*n), link),
+        Reply::Guard(guard) => put_numbered(outbox, b"guard ", u64::from(guard.index()), link),
+        Reply::Implied(literals) => put_listed(outbox, b"implied ", literals, link),
+        Reply::Failed(literals) => put_listed(outbox, b"failed ", literals, link),
+        Reply::Reasons(literals) => put_listed(outbox, b"reasons ", literals, link),
+        Reply::Started(serial) => put_numbered(outbox, b"started ", *serial, link),
+        Reply::Status { serial, status } => put_status(outbox, *serial, *status, link),
+        Reply::Unsat { serial, failed } => {
+            put_numbered(outbox, b"unsat ", *serial, link);
+            put_listed(outbox, b" ", failed, link);
+        }
+        Reply::Model(literals) => put_listed(outbox, b"model ", literals, link),
+        Reply::Known(n) => put_numbered(outbox, b"known ", *n, link),
+        Reply::Clause(literals) => put_listed(outbox, b"clause ", literals, link),
+        Reply::Bye => outbox.put(b"bye", link),
+        Reply::Refused(refusal) => {
+            put_numbered(outbox, b"refused ", line, link);
+            put_numbered(outbox, b" ", u64::from(refusal.number()), link);
+        }
+        Reply::NoMemory => outbox.put(b"nomem", link),
+        Reply::Worked { .. } | Reply::Idle | Reply::Spent => {}
+    }
+}
+
+#[tactic(auto, unfolding(crate::specs::Text::status_text))]
+fn put_status<L: Link>(outbox: &mut Outbox, serial: u64, status: Status, link: &mut L)
+    ensures { (start : World) → Stands start (L.state link.old) outbox.old []
+        → Stands start (L.state link.new) outbox.new (status_text serial status) }
+{
+    match status {
+        Status::Running(spent) => {
+            put_numbered(outbox, b"running ", serial, link);
+            put_numbered(outbox, b" ", u64::from(spent), link);
+        }
+        Status::Paused(spent) => {
+            put_numbered(outbox, b"paused ", serial, link);
+            put_numbered(outbox, b" ", u64::from(spent), link);
+        }
+        Status::Sat => put_numbered(outbox, b"sat ", serial, link),
+        Status::Unsat => put_numbered(outbox, b"unsat ", serial, link),
+        Status::Unknown(Why::Budget) => {
+            put_numbered(outbox, b"unknown ", serial, link);
+            outbox.put(b" budget", link);
+        }
+        Status::Unknown(Why::Stopped) => {
+            put_numbered(outbox, b"unknown ", serial, link);
+            outbox.put(b" stopped", link);
+        }
+    }
+}
+
+// Puts a word, and a number.
+fn put_numbered<L: Link>(outbox: &mut Outbox, word: &[u8], number: u64, link: &mut L)
+    ensures { (start : World) (before : List ℕ) → Stands start (L.state link.old) outbox.old before
+        → Stands start (L.state link.new) outbox.new (before ++ (word.now ++ decimal number)) }
+{
+    outbox.put(word, link);
+    outbox.put(Digits::of(i128::from(number)).as_slice(), link);
+}
+
+// Puts a word, and a list of literals.
+fn put_listed<L: Link>(outbox: &mut Outbox, word: &[u8], literals: &Lits, link: &mut L)
+    ensures { (start : World) (before : List ℕ) → Stands start (L.state link.old) outbox.old before
+        → Stands start (L.state link.new) outbox.new (before ++ (word.now ++ list_text literals.now)) }
+{
+    outbox.put(word, link);
+    put_literals(outbox, literals.as_slice(), link);
+}
