@@ -1,0 +1,18 @@
+use Rattle.std.proofs.Common.{◌≡◌, ◌≤◌, ℕ, length}
+use Rattle.gi_outside.specs.World.{World}
+use Rattle.gi_wire.specs.Source.{last_line}
+use Rattle.gi_net.specs.Going.{Going}
+use Rattle.gi_net.specs.Standing.{Standing}
+use Rattle.gi_net.proofs.session.answer_items.Given as goal
+
+abbrev pub invariant-items : goal.invariant-items
+invariant-items g l = record {
+  count : last_line l.reader ≤ last_line l.fn.reader;
+  link_end : (g.L.Link.state l.link).ended ≡ (g.L.Link.state l.fn.link).ended;
+  reader_end : l.reader.lines.ended ≡ l.fn.reader.lines.ended;
+  going : (start : World) (first : Standing) (taken : ℕ) → Going start (g.L.Link.state l.fn.link) first (g.C.Caller.standing l.fn.caller) l.fn.reader taken
+      → Going start (g.L.Link.state l.link) first (g.C.Caller.standing l.caller) l.reader taken;
+}
+
+abbrev pub decreases-items : goal.decreases-items
+decreases-items g l = length l.reader.lines.left

@@ -1,0 +1,87 @@
+-- What a session has answered when it ends.
+use Rattle.std.specs.Prelude.{◌≡◌, ◌≢◌, ℕ, ◌^◌, ◌<◌, ◌≤◌, ◌⊎◌, Bool, true, false, List, [], ◌∷◌, ◌++◌, length, map}
+use Rattle.std.specs.List.{AllByRecursion}
+use Rattle.gi_outside.specs.World.{IsCutFrom}
+use Rattle.gi_outside.specs.declared.link.Piece.{Piece}
+use Rattle.gi_outside.specs.declared.link.Piece.TheVariants.{In, Out}
+use Rattle.gi_model.specs.History.{Entry}
+use Rattle.gi_model.specs.declared.calls.Call.TheVariants as call
+use Rattle.gi_model.specs.declared.replies.Reply.{Reply}
+use Rattle.gi_model.specs.declared.replies.Reply.TheVariants as reply
+use Rattle.gi_model.specs.declared.refusal.Refusal.TheVariants as refusal
+use Rattle.gi_wire.specs.Items.{items}
+use Rattle.gi_wire.specs.Text.{text}
+use Rattle.gi_wire.specs.declared.reader.Asked.TheVariants as asked
+use Rattle.gi_wire.specs.declared.reader.Item.{Item}
+use Rattle.gi_net.specs.declared.how.How.{How}
+use Rattle.gi_net.specs.declared.how.How.TheVariants as how
+use Rattle.gi_net.specs.Answers.{Answer, answers, calls, text_of, texts}
+use Rattle.gi_net.specs.Entries.{replies}
+
+-- an answer after which the session goes on
+pub record IsQuiet (a : Answer) : Type 0 where
+  pub no_bye : a.reply ≢ reply.Bye
+  pub memory : a.reply ≢ reply.NoMemory
+  pub alive : a.reply ≢ reply.Refused refusal.Dead
+  pub not_bye : a.item.asked ≢ asked.Call call.Bye
+
+-- the session goes on after all answers but the last, which is this
+pub record EndsBy (given : List Answer) (reply : Reply) : Type 0 where
+  pub before : List Answer
+  pub last : Answer
+  pub split : given ≡ before ++ last ∷ []
+  pub quiet : AllByRecursion IsQuiet before
+  pub is : last.reply ≡ reply
+
+-- the first bye was answered bye
+pub record EndsByBye (given : List Answer) : Type 0 where
+  pub by : EndsBy given reply.Bye
+  pub asked : by.last.item.asked ≡ asked.Call call.Bye
+
+-- all answers were written but the last, of which a front was that lacks its last byte
+pub record CutShort (given : List Answer) (out : List ℕ) : Type 0 where
+  pub before : List Answer
+  pub last : Answer
+  pub split : given ≡ before ++ last ∷ []
+  pub quiet : AllByRecursion IsQuiet before
+  pub cut : List ℕ
+  pub is_cut : IsCutFrom cut (text_of last)
+  pub out_is : out ≡ texts before ++ cut
+
+-- all answers were written, and a front of `nomem` that lacks its last byte
+pub record CutInNoMemory (given : List Answer) (out : List ℕ) : Type 0 where
+  pub quiet : AllByRecursion IsQuiet given
+  pub cut : List ℕ
+  pub is_cut : IsCutFrom cut (text 0 reply.NoMemory)
+  pub out_is : out ≡ texts given ++ cut
+
+-- How a session ends: whether End came, how many bytes were taken, how many calls are left, the answers, the items
+-- behind them, and what was written.
+abbrev pub Ends : How → Bool → ℕ → ℕ → List Answer → List Item → List ℕ → Type 0
+Ends how.Bye ended taken left given rest out = EndsByBye given × (out ≡ texts given)
+Ends how.Eof ended taken left given rest out = (ended ≡ true) × (rest ≡ []) × AllByRecursion IsQuiet given × (out ≡ texts given)
+Ends how.Dead ended taken left given rest out = EndsBy given (reply.Refused refusal.Dead) × (out ≡ texts given)
+Ends how.ReadFault ended taken left given rest out = (rest ≡ []) × AllByRecursion IsQuiet given × (out ≡ texts given)
+Ends how.NoMemory ended taken left given rest out = (EndsBy given reply.NoMemory × (out ≡ texts given))
+    ⊎ (AllByRecursion IsQuiet given × (out ≡ texts given ++ text 0 reply.NoMemory))
+Ends how.TooMuch ended taken left given rest out = ((2 ^ 62 ≤ taken) ⊎ ((0 < length rest) × (left ≡ 0))) × AllByRecursion IsQuiet given × (out ≡ texts given)
+Ends how.WriteFault ended taken left given rest out = CutShort given out ⊎ CutInNoMemory given out
+
+-- the bytes taken, whether End came, the caller's calls, how many it has left, the bytes written and the end
+pub record Served (bytes : List ℕ) (ended : Bool) (own : List Entry) (left : ℕ) (out : List ℕ) (how : How) : Type 0 where
+  -- the items that were answered, and those behind them
+  pub front : List Item
+  pub rest : List Item
+  pub split : items ended bytes ≡ front ++ rest
+  -- their calls are the caller's, each once, in order
+  pub calls_are : map (λ e. e.call) own ≡ calls front
+  pub ends : Ends how ended (length bytes) left (answers front (replies own)) rest out
+
+-- before each In piece, all items of the In pieces before it were answered, and nothing else was written
+abbrev pub PromptFrom : List Entry → List ℕ → List ℕ → List Piece → Type 0
+PromptFrom own ins outs [] = Unit {0}
+PromptFrom own ins outs (In bytes ∷ tape) = ((length (calls (items false ins)) ≤ length own) × (outs ≡ texts (answers (items false ins) (replies own)))) × PromptFrom own (ins ++ bytes) outs tape
+PromptFrom own ins outs (Out bytes ∷ tape) = PromptFrom own ins (outs ++ bytes) tape
+
+abbrev pub IsPrompt : List Entry → List Piece → Type 0
+IsPrompt own tape = PromptFrom own [] [] tape

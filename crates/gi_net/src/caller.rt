@@ -1,0 +1,41 @@
+// The caller's side of a machine. Others may call between.
+ghost use Rattle.std.specs.Prelude.{◌≡◌, true, Some, IsSome};
+ghost use Rattle.gi_model.specs.Fits.{fits};
+
+use gi_model::{Call, Reply};
+
+/// What came of a call.
+#[derive(Clone, Copy, Debug, PartialEq, Eq)]
+pub enum Answered {
+    /// It has an entry in the history, with its reply.
+    Entry,
+    /// There was no memory for its entry.
+    NoMemory,
+    /// No call was left.
+    Spent,
+}
+
+/// One of the callers of a machine. Each of its calls becomes an entry of the machine's history, of which it sees all up
+/// to its own last entry. A `Wait` may make own `Work` entries before its own.
+pub trait Caller {
+    ghost use Rattle.std.specs.Prelude.{Option};
+    ghost use Rattle.gi_model.specs.declared.replies.Reply.{Reply};
+    ghost use Rattle.gi_net.specs.Standing.{Standing};
+    ghost use Rattle.gi_net.specs.Calls.{Makes};
+
+    /// Its number, the history that it has seen, and its calls left.
+    ghost standing: { Self → Standing };
+
+    /// The reply to its last call, where that has an entry.
+    ghost answer: { Self → Option Reply };
+
+    /// Makes a call, which may not be `Work` or a solve with no budget.
+    fn call(&mut self, call: Call) -> Answered
+        requires { fits call ≡ true }
+        ensures { Makes result call (answer self.new) (standing self.old) (standing self.new) };
+
+    /// The reply to the last call.
+    fn reply(&self) -> &Reply
+        requires { IsSome (answer self.now) }
+        ensures { answer self.now ≡ Some result.now };
+}
