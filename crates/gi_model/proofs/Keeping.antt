@@ -7,7 +7,8 @@ use Rattle.std.proofs.lemmas.List.Folds.{list_any_at}
 use Rattle.gi_lit.specs.Problem.{Problem, force, has, is_usable, is_guard_lit, top, grown, with_clause, with_pair, with_guard, without_guard, IsProblemVar, IsAssumable, IsLiveVar, IsWellFormed}
 use Rattle.gi_lit.specs.Learnt.{IsImplied, AreFresh}
 use Rattle.gi_lit.proofs.Vars.{usable_facts, Contains-from_has, lacks_none, var_facts}
-use Rattle.gi_lit.proofs.Growing.{Grows, IsUsable, grows_grown, IsWellFormed-grown, grows_clause, IsWellFormed-clause, grows_pair, IsWellFormed-pair, grows_guard, IsWellFormed-guard, assumable_grows, implied_grows, fails_more, usable_grown, top_bounds, Satisfies-fewer}
+use Rattle.gi_lit.proofs.Growing.{Grows, IsUsable, grows_grown, IsWellFormed-grown, grows_clause, IsWellFormed-clause, grows_pair, IsWellFormed-pair, grows_guard, IsWellFormed-guard, assumable_grows, implied_grows, fails_more, usable_grown, Satisfies-fewer}
+use Rattle.gi_lit.proofs.Tops.{top_bounds}
 use Rattle.gi_lit.proofs.Distinct.{IsDistinct-apart}
 use Rattle.gi_lit.proofs.Dropping as dropping
 use Rattle.gi_model.specs.Limits.{most_vars, most_pending, most_scopes, most_solves, most_untrimmed}
