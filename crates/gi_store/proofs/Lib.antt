@@ -1,0 +1,4 @@
+mod Lists
+mod Forgetting
+mod Views
+mod Edits

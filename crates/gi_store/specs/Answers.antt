@@ -1,0 +1,11 @@
+-- What a new guard gives.
+use Rattle.std.specs.Prelude.{◌≡◌, ℕ, ◌≤◌, List, []}
+use Rattle.gi_lit.specs.Problem.{next_guard}
+use Rattle.gi_store.specs.Held.{Held, problem_of, with_new_guard}
+use Rattle.gi_store.specs.declared.new_guard.NewGuard.{NewGuard}
+use Rattle.gi_store.specs.declared.new_guard.NewGuard.TheVariants.{Guard, Limit, NoMemory}
+
+abbrev pub GivesGuard : Held → NewGuard → Held → Type 0
+GivesGuard old (Guard g) new = (g ≡ next_guard (problem_of old)) × (new ≡ with_new_guard old)
+GivesGuard old Limit new = (old.freed ≡ []) × (old.vars ≡ 1048576) × (new ≡ old)
+GivesGuard old NoMemory new = new ≡ old

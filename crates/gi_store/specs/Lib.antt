@@ -1,0 +1,6 @@
+pub mod Held
+pub mod Stored
+pub mod Whole
+pub mod Laws
+pub mod Answers
+pub mod Taken

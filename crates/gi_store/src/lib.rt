@@ -1,0 +1,13 @@
+//! The clauses of a problem and the learnt ones, each under a key, and the guards that come and go.
+#![tactic(auto)]
+
+mod guards;
+mod key;
+mod kind;
+mod new_guard;
+mod slots;
+
+pub use key::Key;
+pub use kind::VarKind;
+pub use new_guard::NewGuard;
+
