@@ -23,7 +23,7 @@ lits_of e = e.lits
 abbrev key_of : Entry → ℕ
 key_of e = e.key
 
-abbrev pair_in : PairEntry → Pair
+abbrev pub pair_in : PairEntry → Pair
 pair_in q = record { guard = q.guard; clause = q.clause }
 
 -- the kinds of the same variables and guards are the same

@@ -6,8 +6,10 @@ mod key;
 mod kind;
 mod new_guard;
 mod slots;
+mod store;
 
 pub use key::Key;
 pub use kind::VarKind;
 pub use new_guard::NewGuard;
+pub use store::Store;
 

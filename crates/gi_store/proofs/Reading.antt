@@ -1,0 +1,65 @@
+-- What is read of a store.
+use Rattle.std.proofs.Common.{◌≡◌, ℕ, zero, suc, ◌+◌, ◌-◌, ◌<◌, ◌≤◌, Option, Some, None, List, [], ◌∷◌, ◌++◌, length, map, get_or, refl, sym, ap, ◌∙◌, subst, arith, ◌⊎◌, inl, inr}
+use Rattle.std.specs.List.{Contains, slice_get}
+use Rattle.std.specs.Option.{IsSome, unwrap_or}
+use Rattle.std.proofs.lemmas.List.Elements.{Contains-append_left, Contains-append_right, Contains-append_cases}
+use Rattle.slab.specs.Slab.{Slab, get}
+use Rattle.gi_lit.specs.Lists.{IsDistinct}
+use Rattle.gi_store.specs.Held.{Entry, PairEntry, Held, full_entry, entries, keys_of, Holds, IsLive}
+use Rattle.gi_store.specs.Stored.{clause_at, entry_at, pair_at, held_of, IsStored}
+use Rattle.gi_store.proofs.Lists.{Contains-map}
+use Rattle.gi_store.proofs.Views.{keys_are}
+use Rattle.gi_store.proofs.Removing.{one_clause}
+
+pub get_left : {X : Type 0} (xs ys : List X) (i : ℕ) → i < length xs → slice_get (xs ++ ys) i ≡ slice_get xs i
+get_left [] ys i lt = absurd (omega (arith, lt))
+get_left (x ∷ xs) ys zero lt = refl
+get_left (x ∷ xs) ys (suc i) lt = get_left xs ys i (omega arith)
+
+pub get_right : {X : Type 0} (xs ys : List X) (i : ℕ) → length xs ≤ i → slice_get (xs ++ ys) i ≡ slice_get ys (i - length xs)
+get_right [] ys i le = ap (slice_get ys) (let e : i ≡ i - 0 = omega arith in e)
+get_right (x ∷ xs) ys zero le = absurd (omega (arith, le))
+get_right (x ∷ xs) ys (suc i) le = get_right xs ys i (omega arith) ∙ ap (slice_get ys) (let e : i - length xs ≡ suc i - suc (length xs) = omega arith in e)
+
+pub get_read : {X : Type 0} (xs : List X) (i : ℕ) (x : X) → i < length xs → x ≡ get_or xs i x → Some x ≡ slice_get xs i
+get_read [] i x lt e = absurd (omega (arith, lt))
+get_read (y ∷ xs) zero x lt e = ap Some e
+get_read (y ∷ xs) (suc i) x lt e = get_read xs i x (omega arith) e
+
+pub get_past : {X : Type 0} (xs : List X) (i : ℕ) → length xs ≤ i → None ≡ slice_get xs i
+get_past [] i le = refl
+get_past (y ∷ xs) zero le = absurd (omega (arith, le))
+get_past (y ∷ xs) (suc i) le = get_past xs i (omega arith)
+
+pub get_map : {X Y : Type 0} (f : X → Y) (xs : List X) (i : ℕ) (x : X) → i < length xs → x ≡ get_or xs i x → Some (f x) ≡ slice_get (map f xs) i
+get_map f [] i x lt e = absurd (omega (arith, lt))
+get_map f (y ∷ xs) zero x lt e = ap (λ z. Some (f z)) e
+get_map f (y ∷ xs) (suc i) x lt e = get_map f xs i x (omega arith) e
+
+module _ (s : Slab (List ℕ)) (p q l : List ℕ) (n : ℕ) (a f : List ℕ) (h : IsStored s p q l) where
+  abbrev held : Held
+  held = held_of n s p q l a f
+
+  pub distinct_keys : IsDistinct (keys_of held)
+  distinct_keys = subst IsDistinct (sym (keys_are s p q l n a f)) h.keys.distinct
+
+  pub key_known : (k : ℕ) → IsLive held k → Contains (p ++ (q ++ l)) k
+  key_known k c = subst (λ ks. Contains ks k) (keys_are s p q l n a f) c
+
+  pub key_live : (k : ℕ) → Contains (p ++ (q ++ l)) k → IsLive held k
+  key_live k c = subst (λ ks. Contains ks k) (sym (keys_are s p q l n a f)) c
+
+  pub has_slot : (k : ℕ) → IsLive held k → IsSome (get s k)
+  has_slot k c = h.keys.live k (key_known k c)
+
+  pub holds_slot : (k : ℕ) → IsLive held k → Holds held k (clause_at s k)
+  holds_slot k c = elim (Contains-append_cases p (q ++ l) k (key_known k c)) [
+    | inl x ↦ Contains-append_left held.plain (map full_entry held.pairs ++ held.learnt) (entry_at s k) (Contains-map (entry_at s) p k x)
+    | inr r ↦ Contains-append_right held.plain (map full_entry held.pairs ++ held.learnt) (entry_at s k) (elim (Contains-append_cases q l k r) [
+        | inl x ↦ Contains-append_left (map full_entry held.pairs) held.learnt (entry_at s k) (subst (Contains (map full_entry held.pairs)) (sym (h.ends k x)) (Contains-map full_entry held.pairs (pair_at s k) (Contains-map (pair_at s) q k x)))
+        | inr y ↦ Contains-append_right (map full_entry held.pairs) held.learnt (entry_at s k) (Contains-map (entry_at s) l k y)
+      ])
+  ]
+
+  pub holds_only : (k : ℕ) → IsLive held k → (c : List ℕ) → Holds held k c → clause_at s k ≡ c
+  holds_only k live c x = one_clause (entries held) distinct_keys k (clause_at s k) c (holds_slot k live) x

@@ -1,0 +1,236 @@
+ghost use Rattle.std.specs.Prelude.{◌≡◌, ◌≤◌, ◌<◌, ◌+◌, ◌/◌, ℕ, List, [], ◌∷◌, ◌++◌, length, max, All, Contains, IfOk, OnOk, OnErr, option_copied};
+ghost use Rattle.gi_lit.specs.Problem.{IsPlain, without_guard, without_var, with_guard, grown};
+ghost use Rattle.gi_store.specs.Held.{Held, Keeps, IsLive, Holds, IsWithin, problem_of, known_of, keys_of, entries, with_plain, with_under, with_learnt, without_guard_of, trimmed, at_place};
+ghost use Rattle.gi_store.specs.Whole.{IsWhole, IsKind};
+ghost use Rattle.gi_lit.specs.Lists.{IsDistinct};
+ghost use Rattle.gi_store.specs.Answers.{GivesGuard};
+
+use crate::key::Key;
+use crate::kind::VarKind;
+use crate::new_guard::NewGuard;
+use crate::guards::{add_kinds, drop_var, make_room, take_guard};
+use crate::slots::{forget_first, forget_naming, insert};
+use gi_lit::{Lit, Lits, MAX_VAR, Var};
+use slab::Slab;
+use std::alloc::{AllocError, Global};
+use std::marker::Model;
+
+/// A problem with its guards, and the learnt clauses, each clause under a key. Contracts see the lists of plain clauses, of pairs of a guard and a
+/// clause, and of learnt clauses, the oldest first, each with its key.
+#[derive(Drop)]
+pub struct Store {
+    alloc: Global,
+    kinds: Vec<VarKind>,
+    active: Vec<Var>,
+    freed: Vec<Var>,
+    slots: Slab<Lits>,
+    plain: Vec<Key>,
+    pairs: Vec<Key>,
+    learnt: Vec<Key>,
+}
+
+impl Model for Store {
+    ghost use Rattle.std.specs.Prelude.{length, vec_capacity};
+    ghost use Rattle.gi_store.specs.Held.{Held};
+    ghost use Rattle.gi_store.specs.Stored.{held_of, IsKept};
+
+    ghost Value = { Held };
+
+    ghost view = { λ s. held_of (length s.kinds.items) s.slots s.plain.items s.pairs.items s.learnt.items s.active.items s.freed.items };
+
+    ghost invariant = { λ s. IsKept s.kinds.items s.slots s.plain.items s.pairs.items s.learnt.items s.active.items s.freed.items (vec_capacity s.freed) };
+}
+
+impl Store {
+    /// A store with no variable and no clause.
+    pub fn new(alloc: Global) -> Store
+        ensures { result ≡ record { vars = 0; plain = []; pairs = []; active = []; freed = []; learnt = [] } }
+    {
+        Store {
+            alloc,
+            kinds: Vec::new(alloc),
+            active: Vec::new(alloc),
+            freed: Vec::new(alloc),
+            slots: Slab::new(alloc),
+            plain: Vec::new(alloc),
+            pairs: Vec::new(alloc),
+            learnt: Vec::new(alloc),
+        }
+    }
+
+    /// Makes the count of variables at least `n`; the new ones are variables of the problem. Unchanged after an error.
+    pub fn grow(&mut self, n: u32) -> Result<(), AllocError>
+        requires { n ≤ 1048576 }
+        ensures ok { OnOk result (self.new ≡ record self.old { vars = max self.old.vars n }) }
+        ensures keeps { Keeps self.old self.new }
+        ensures err { OnErr result (self.new ≡ self.old) }
+    {
+        let more = (n as usize).saturating_sub(self.kinds.len());
+        self.kinds.reserve(more)?;
+        add_kinds(&mut self.kinds, more);
+        Ok(())
+    }
+
+    /// Adds a plain clause of variables of the problem, and picks its key. Unchanged after an error.
+    pub fn add(&mut self, c: &[Lit]) -> Result<Key, AllocError>
+        requires { IsPlain (problem_of self.old) c.now }
+        ensures ok { IfOk result (λ key. self.new ≡ with_plain key c.now self.old) }
+        ensures fresh { IfOk result (λ key. ¬ IsLive self.old key) }
+        ensures keeps { Keeps self.old self.new }
+        ensures err { OnErr result (self.new ≡ self.old) }
+    {
+        let clause = Lits::from_vec(Vec::from_slice(self.alloc, c)?);
+        let key = insert(&mut self.slots, &mut self.plain, clause)?;
+        Ok(key)
+    }
+
+    /// Adds a clause of variables of the problem under an active guard, and picks its key. It is stored with the guard's negative literal last.
+    /// Unchanged after an error.
+    pub fn add_under(&mut self, guard: Var, c: &[Lit]) -> Result<Key, AllocError>
+        requires guard { Contains self.old.active guard }
+        requires plain { IsPlain (problem_of self.old) c.now }
+        ensures ok { IfOk result (λ key. self.new ≡ with_under key guard c.now self.old) }
+        ensures fresh { IfOk result (λ key. ¬ IsLive self.old key) }
+        ensures keeps { Keeps self.old self.new }
+        ensures err { OnErr result (self.new ≡ self.old) }
+    {
+        let mut lits = Vec::new(self.alloc);
+        lits.extend_from_slice(c)?;
+        lits.push(guard.negative())?;
+        let key = insert(&mut self.slots, &mut self.pairs, Lits::from_vec(lits))?;
+        Ok(key)
+    }
+
+    /// Adds a learnt clause behind the others, and picks its key. Unchanged after an error.
+    pub fn learn(&mut self, c: &[Lit]) -> Result<Key, AllocError>
+        requires { IsWithin self.old.vars c.now }
+        ensures ok { IfOk result (λ key. self.new ≡ with_learnt key c.now self.old) }
+        ensures fresh { IfOk result (λ key. ¬ IsLive self.old key) }
+        ensures keeps { Keeps self.old self.new }
+        ensures err { OnErr result (self.new ≡ self.old) }
+    {
+        let clause = Lits::from_vec(Vec::from_slice(self.alloc, c)?);
+        let key = insert(&mut self.slots, &mut self.learnt, clause)?;
+        Ok(key)
+    }
+
+    /// Gives the guard that was freed last, else the next variable, and makes it active. It makes the room in which the guard is freed later.
+    /// `Limit` comes exactly where no guard is freed and the count of variables is `MAX_VAR`.
+    pub fn new_guard(&mut self) -> NewGuard
+        ensures gives { GivesGuard self.old result self.new }
+        ensures keeps { Keeps self.old self.new }
+    {
+        if self.freed.is_empty() && self.kinds.len() >= MAX_VAR as usize {
+            return NewGuard::Limit;
+        }
+        match make_room(&mut self.kinds, &mut self.active, &mut self.freed) {
+            Ok(()) => NewGuard::Guard(take_guard(&mut self.kinds, &mut self.active, &mut self.freed)),
+            Err(_) => NewGuard::NoMemory,
+        }
+    }
+
+    /// Frees an active guard: its pairs go, each learnt clause with its variable goes, all else stays in order. Takes no memory, and time linear in
+    /// what is stored.
+    pub fn remove_guard(&mut self, guard: Var)
+        requires { Contains self.old.active guard }
+        ensures after { self.new ≡ without_guard_of guard self.old }
+        ensures keeps { Keeps self.old self.new }
+    {
+        forget_naming(&mut self.slots, &mut self.pairs, guard);
+        forget_naming(&mut self.slots, &mut self.learnt, guard);
+        drop_var(&mut self.active, guard);
+        self.kinds[(guard.index() - 1) as usize] = VarKind::Freed;
+        self.freed.push_reserved(guard);
+    }
+
+    /// Takes the older half of the learnt clauses away, rounded down. Takes no memory, and time linear in their number.
+    pub fn trim(&mut self)
+        ensures after { self.new ≡ trimmed self.old }
+        ensures keeps { Keeps self.old self.new }
+    {
+        let half = self.learnt.len() / 2;
+        forget_first(&mut self.slots, &mut self.learnt, half);
+    }
+
+    /// What the variable is. In constant time.
+    pub fn kind(&self, v: Var) -> VarKind
+        ensures { IsKind self.now v result }
+    {
+        match self.kinds.get((v.index() - 1) as usize) {
+            Some(kind) => *kind,
+            None => VarKind::Beyond,
+        }
+    }
+
+    /// The count of variables.
+    pub fn vars(&self) -> u32
+        ensures value { result ≡ self.now.vars }
+        ensures whole { IsWhole self.now }
+        ensures keys { IsDistinct (keys_of self.now) }
+    {
+        let _ = &self.slots;
+        self.kinds.len() as u32
+    }
+
+    /// How many plain clauses and pairs there are.
+    pub fn problem(&self) -> u64
+        ensures { result ≡ length self.now.plain + length self.now.pairs }
+    {
+        self.plain.len() as u64 + self.pairs.len() as u64
+    }
+
+    /// How many learnt clauses there are.
+    pub fn known(&self) -> u64
+        ensures { result ≡ length (known_of self.now) }
+    {
+        self.learnt.len() as u64
+    }
+
+    /// The learnt clause at a place, from 1, the oldest first. None exactly where none stands there. In constant time.
+    pub fn known_at(&self, i: u64) -> Option<&[Lit]>
+        ensures { option_copied result ≡ at_place (known_of self.now) i }
+    {
+        if i == 0 {
+            return None;
+        }
+        match self.learnt.get((i - 1) as usize) {
+            None => None,
+            Some(key) => Some(self.clause(*key)),
+        }
+    }
+
+    /// The key of the clause at a place, from 1, of the plain clauses, then the pairs, then the learnt clauses. None exactly where none stands there.
+    /// In constant time.
+    pub fn key_at(&self, i: u64) -> Option<Key>
+        ensures { result ≡ at_place (keys_of self.now) i }
+    {
+        if i == 0 {
+            return None;
+        }
+        let place = (i - 1) as usize;
+        if place < self.plain.len() {
+            return Some(self.plain[place]);
+        }
+        let place = place - self.plain.len();
+        if place < self.pairs.len() {
+            return Some(self.pairs[place]);
+        }
+        let place = place - self.pairs.len();
+        if place < self.learnt.len() {
+            return Some(self.learnt[place]);
+        }
+        None
+    }
+
+    /// The clause of a key that is in use. In constant time.
+    pub fn clause(&self, key: Key) -> &[Lit]
+        requires { IsLive self.now key }
+        ensures holds { Holds self.now key result.now }
+        ensures only { (c : List ℕ) → Holds self.now key c → result.now ≡ c }
+    {
+        match self.slots.get(key.slot()) {
+            Some(clause) => clause.as_slice(),
+            None => unreachable!(),
+        }
+    }
+}
