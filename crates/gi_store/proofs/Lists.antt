@@ -1,6 +1,7 @@
 -- Lists in which nothing stands twice.
-use Rattle.std.proofs.Common.{◌≡◌, ◌≢◌, ℕ, zero, suc, ◌+◌, ◌<◌, ◌≤◌, Bool, true, false, cond, List, [], ◌∷◌, ◌++◌, length, take, drop, map, get_or, refl, sym, ap, ◌∙◌, subst, arith, ◌⊎◌, inl, inr}
+use Rattle.std.proofs.Common.{◌≡◌, ◌≢◌, ℕ, zero, suc, ◌+◌, ◌<◌, ◌≤◌, Bool, true, false, cond, List, [], ◌∷◌, ◌++◌, length, take, drop, map, reverse, get_or, refl, sym, ap, ◌∙◌, subst, arith, ◌⊎◌, inl, inr}
 use Rattle.std.specs.List.{Contains, filter}
+use Rattle.std.proofs.lemmas.List.{reverse-append}
 use Rattle.std.proofs.lemmas.List.Elements.{Contains-append_left, Contains-append_right, Contains-append_cases}
 use Rattle.slab.proofs.SlabLemmas.{Contains-cons, Contains-cons_cases}
 use Rattle.gi_lit.specs.Lists.{IsDistinct}
@@ -113,3 +114,10 @@ Contains-unmap f (x ∷ xs) y c = elim (Contains-cons_cases (f x) y (map f xs) c
   | inl e ↦ (x, Contains-head x xs, e)
   | inr r ↦ let q = Contains-unmap f xs y r in (q.0, Contains-cons x q.0 xs q.1, q.2)
 ]
+
+pub Contains-reverse : (xs : List ℕ) (x : ℕ) → Contains xs x → Contains (reverse xs) x
+Contains-reverse [] x c = c
+Contains-reverse (y ∷ ys) x c = subst (λ zs. Contains zs x) (sym (reverse-append (y ∷ []) ys)) (elim (Contains-cons_cases y x ys c) [
+  | inl e ↦ subst (λ z. Contains (reverse ys ++ y ∷ []) z) e (Contains-append_right (reverse ys) (y ∷ []) y (Contains-head y []))
+  | inr r ↦ Contains-append_left (reverse ys) (y ∷ []) x (Contains-reverse ys x r)
+])

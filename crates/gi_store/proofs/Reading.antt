@@ -1,11 +1,12 @@
 -- What is read of a store.
-use Rattle.std.proofs.Common.{◌≡◌, ℕ, zero, suc, ◌+◌, ◌-◌, ◌<◌, ◌≤◌, Option, Some, None, List, [], ◌∷◌, ◌++◌, length, map, get_or, refl, sym, ap, ◌∙◌, subst, arith, ◌⊎◌, inl, inr}
+use Rattle.std.proofs.Common.{◌≡◌, ℕ, zero, suc, ◌+◌, ◌-◌, ◌<◌, ◌≤◌, ◌==◌, Bool, cond, Option, Some, None, List, [], ◌∷◌, ◌++◌, length, map, get_or, refl, sym, ap, ◌∙◌, subst, arith, ◌⊎◌, inl, inr}
 use Rattle.std.specs.List.{Contains, slice_get}
 use Rattle.std.specs.Option.{IsSome, unwrap_or}
+use Rattle.std.proofs.lemmas.Bool.{ne_eqb}
 use Rattle.std.proofs.lemmas.List.Elements.{Contains-append_left, Contains-append_right, Contains-append_cases}
 use Rattle.slab.specs.Slab.{Slab, get}
 use Rattle.gi_lit.specs.Lists.{IsDistinct}
-use Rattle.gi_store.specs.Held.{Entry, PairEntry, Held, full_entry, entries, keys_of, Holds, IsLive}
+use Rattle.gi_store.specs.Held.{Entry, PairEntry, Held, full_entry, entries, keys_of, Holds, IsLive, known_of, at_place}
 use Rattle.gi_store.specs.Stored.{clause_at, entry_at, pair_at, held_of, IsStored}
 use Rattle.gi_store.proofs.Lists.{Contains-map}
 use Rattle.gi_store.proofs.Views.{keys_are}
@@ -36,6 +37,14 @@ get_map f [] i x lt e = absurd (omega (arith, lt))
 get_map f (y ∷ xs) zero x lt e = ap (λ z. Some (f z)) e
 get_map f (y ∷ xs) (suc i) x lt e = get_map f xs i x (omega arith) e
 
+pub at_number : {X : Type 0} (xs : List X) (i : ℕ) (o : Option X) → (i ≡ 0 → ⊥) → o ≡ slice_get xs (i - 1) → o ≡ at_place xs i
+at_number xs i o n e = e ∙ sym (ap (λ b. cond b None (slice_get xs (i - 1))) (ne_eqb i 0 n))
+
+pub known_read : (s : Slab (List ℕ)) (l : List ℕ) (i x : ℕ) → i < length l → x ≡ get_or l i x → Some (clause_at s x) ≡ slice_get (map (λ (e : Entry). e.lits) (map (entry_at s) l)) i
+known_read s [] i x lt e = absurd (omega (arith, lt))
+known_read s (y ∷ l) zero x lt e = ap (λ z. Some (clause_at s z)) e
+known_read s (y ∷ l) (suc i) x lt e = known_read s l i x (omega arith) e
+
 module _ (s : Slab (List ℕ)) (p q l : List ℕ) (n : ℕ) (a f : List ℕ) (h : IsStored s p q l) where
   abbrev held : Held
   held = held_of n s p q l a f
@@ -63,3 +72,6 @@ module _ (s : Slab (List ℕ)) (p q l : List ℕ) (n : ℕ) (a f : List ℕ) (h 
 
   pub holds_only : (k : ℕ) → IsLive held k → (c : List ℕ) → Holds held k c → clause_at s k ≡ c
   holds_only k live c x = one_clause (entries held) distinct_keys k (clause_at s k) c (holds_slot k live) x
+
+  pub key_read : (i : ℕ) (o : Option ℕ) → (i ≡ 0 → ⊥) → o ≡ slice_get (p ++ (q ++ l)) (i - 1) → o ≡ at_place (keys_of held) i
+  key_read i o some e = at_number (keys_of held) i o some (e ∙ ap (λ (ks : List ℕ). slice_get ks (i - 1)) (sym (keys_are s p q l n a f)))

@@ -193,10 +193,11 @@ impl Store {
         if i == 0 {
             return None;
         }
-        match self.learnt.get((i - 1) as usize) {
-            None => None,
-            Some(key) => Some(self.clause(*key)),
+        let place = (i - 1) as usize;
+        if place >= self.learnt.len() {
+            return None;
         }
+        Some(self.clause(self.learnt[place]))
     }
 
     /// The key of the clause at a place, from 1, of the plain clauses, then the pairs, then the learnt clauses. None exactly where none stands there.
