@@ -7,3 +7,4 @@ pub mod Tops
 pub mod Guarding
 pub mod Growing
 pub mod Dropping
+pub mod Releasing

@@ -1,6 +1,6 @@
 -- Laws over the definitions.
-use Rattle.std.specs.Prelude.{◌≡◌, ℕ, ◌/◌, ◌≤◌, Bool, true, List, map, All, Contains}
-use Rattle.gi_lit.specs.Literals.{opposite}
+use Rattle.std.specs.Prelude.{◌≡◌, ℕ, ◌+◌, ◌*◌, ◌/◌, ◌≤◌, ◌⊎◌, Bool, true, List, map, All, Contains}
+use Rattle.gi_lit.specs.Literals.{opposite, IsSubsetOf}
 use Rattle.gi_lit.specs.Truth.{clause_true, Satisfies, IsConsequence, Fail}
 use Rattle.gi_lit.specs.Closure.{IsDerivation, Conflicts, IsConsistent, IsClosed}
 use Rattle.gi_lit.specs.Problem.{Problem, force, full, IsWellFormed}
@@ -28,3 +28,21 @@ ClosedListsAreFree = (clauses : List (List ℕ)) (given lits : List ℕ) → IsC
 -- what fails over the full clauses fails over those in force
 abbrev pub GuardsAreSound : Type 0
 GuardsAreSound = (p : Problem) (given : List ℕ) → IsWellFormed p → All (λ l. 1 ≤ l / 2) given → Fail (full p) given → Fail (force p given) given
+
+-- in the full clauses guards stand negative alone
+abbrev pub GuardsStandNegative : Type 0
+GuardsStandNegative = (p : Problem) → IsWellFormed p → All (λ c. All (λ l. Contains p.active (l / 2) → l ≡ 2 * (l / 2) + 1) c) (full p)
+
+-- the clause is the whole one less negative literals of active guards that are given
+pub record IsReleased (p : Problem) (given clause whole : List ℕ) : Type 0 where
+  pub inside : IsSubsetOf clause whole
+  pub others : All (λ l. Contains clause l ⊎ ((g : ℕ) × Contains p.active g × Contains given (2 * g) × (l ≡ 2 * g + 1))) whole
+
+-- each clause in force is a full clause less negative literals of guards that are given
+abbrev pub ForcedClausesAreFull : Type 0
+ForcedClausesAreFull = (p : Problem) (given : List ℕ) → IsWellFormed p → All (λ d. (c : List ℕ) × Contains (full p) c × IsReleased p given d c) (force p given)
+
+-- and each other full clause has the negative literal of an active guard that isn't given
+abbrev pub OtherClausesAreHeld : Type 0
+OtherClausesAreHeld = (p : Problem) (given : List ℕ) → IsWellFormed p
+    → All (λ c. ((d : List ℕ) × Contains (force p given) d × IsReleased p given d c) ⊎ ((g : ℕ) × Contains p.active g × Contains c (2 * g + 1) × ¬ Contains given (2 * g))) (full p)

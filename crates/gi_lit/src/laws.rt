@@ -1,6 +1,6 @@
 //! Laws over the definitions, each the contract of a function that does nothing.
 
-ghost use Rattle.gi_lit.specs.Laws.{DerivationsAreSound, ConflictsAreSound, DerivedClausesAreTrue, ClosedListsAreWhole, ClosedListsAreFree, GuardsAreSound};
+ghost use Rattle.gi_lit.specs.Laws.{DerivationsAreSound, ConflictsAreSound, DerivedClausesAreTrue, ClosedListsAreWhole, ClosedListsAreFree, GuardsAreSound, GuardsStandNegative, ForcedClausesAreFull, OtherClausesAreHeld};
 
 /// Unit closure is sound: what a derivation contains is a consequence of the clauses and of what is given,
 /// and where the closure conflicts they fail together.
@@ -25,4 +25,13 @@ pub fn closed_lists_are_whole()
 /// that are in force under them.
 pub fn guards_are_sound()
     ensures { GuardsAreSound }
+{}
+
+/// Where a problem is well formed, guards stand negative alone in its full clauses. A clause that is in
+/// force is a full clause less negative literals of guards that are given, and each other full clause has
+/// the negative literal of an active guard that isn't given.
+pub fn guards_stand_negative()
+    ensures negative { GuardsStandNegative }
+    ensures in_force { ForcedClausesAreFull }
+    ensures held { OtherClausesAreHeld }
 {}
