@@ -8,3 +8,4 @@ pub mod Guarding
 pub mod Growing
 pub mod Dropping
 pub mod Releasing
+pub mod Agreeing

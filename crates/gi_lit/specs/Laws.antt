@@ -1,9 +1,9 @@
 -- Laws over the definitions.
-use Rattle.std.specs.Prelude.{◌≡◌, ℕ, ◌+◌, ◌*◌, ◌/◌, ◌≤◌, ◌⊎◌, Bool, true, List, map, All, Contains}
+use Rattle.std.specs.Prelude.{◌≡◌, ℕ, ◌+◌, ◌*◌, ◌/◌, ◌≤◌, ◌⊎◌, ◌↔◌, Bool, true, List, map, All, Contains}
 use Rattle.gi_lit.specs.Literals.{opposite, IsSubsetOf}
 use Rattle.gi_lit.specs.Truth.{clause_true, Satisfies, IsConsequence, Fail}
-use Rattle.gi_lit.specs.Closure.{IsDerivation, Conflicts, IsConsistent, IsClosed}
-use Rattle.gi_lit.specs.Problem.{Problem, force, full, IsWellFormed}
+use Rattle.gi_lit.specs.Closure.{IsDerivation, InClosure, Conflicts, IsConsistent, IsClosed}
+use Rattle.gi_lit.specs.Problem.{Problem, force, full, IsWellFormed, IsProblemVar, IsAssumable}
 
 -- what a derivation contains is a consequence
 abbrev pub DerivationsAreSound : Type 0
@@ -46,3 +46,11 @@ ForcedClausesAreFull = (p : Problem) (given : List ℕ) → IsWellFormed p → A
 abbrev pub OtherClausesAreHeld : Type 0
 OtherClausesAreHeld = (p : Problem) (given : List ℕ) → IsWellFormed p
     → All (λ c. ((d : List ℕ) × Contains (force p given) d × IsReleased p given d c) ⊎ ((g : ℕ) × Contains p.active g × Contains c (2 * g + 1) × ¬ Contains given (2 * g))) (full p)
+
+-- under assumable literals the unit closure of the full clauses has the problem literals of that of the clauses in force, and no others
+abbrev pub ClosuresAgree : Type 0
+ClosuresAgree = (p : Problem) (given : List ℕ) → IsWellFormed p → All (IsAssumable p) given → (l : ℕ) → IsProblemVar p (l / 2) → InClosure (full p) given l ↔ InClosure (force p given) given l
+
+-- and the one conflicts exactly where the other does
+abbrev pub ConflictsAgree : Type 0
+ConflictsAgree = (p : Problem) (given : List ℕ) → IsWellFormed p → All (IsAssumable p) given → Conflicts (full p) given ↔ Conflicts (force p given) given

@@ -1,6 +1,6 @@
 //! Laws over the definitions, each the contract of a function that does nothing.
 
-ghost use Rattle.gi_lit.specs.Laws.{DerivationsAreSound, ConflictsAreSound, DerivedClausesAreTrue, ClosedListsAreWhole, ClosedListsAreFree, GuardsAreSound, GuardsStandNegative, ForcedClausesAreFull, OtherClausesAreHeld};
+ghost use Rattle.gi_lit.specs.Laws.{DerivationsAreSound, ConflictsAreSound, DerivedClausesAreTrue, ClosedListsAreWhole, ClosedListsAreFree, GuardsAreSound, GuardsStandNegative, ForcedClausesAreFull, OtherClausesAreHeld, ClosuresAgree, ConflictsAgree};
 
 /// Unit closure is sound: what a derivation contains is a consequence of the clauses and of what is given,
 /// and where the closure conflicts they fail together.
@@ -34,4 +34,12 @@ pub fn guards_stand_negative()
     ensures negative { GuardsStandNegative }
     ensures in_force { ForcedClausesAreFull }
     ensures held { OtherClausesAreHeld }
+{}
+
+/// Under literals that may be assumed, the unit closure of the full clauses of a well formed problem and
+/// that of its clauses in force have the same problem literals, and the one conflicts exactly where the
+/// other does.
+pub fn closures_agree()
+    ensures literals { ClosuresAgree }
+    ensures conflicts { ConflictsAgree }
 {}
