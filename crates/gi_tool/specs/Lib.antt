@@ -1,0 +1,4 @@
+pub mod Standing
+pub mod Words
+pub mod Passing
+pub mod Outcome

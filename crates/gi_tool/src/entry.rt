@@ -1,0 +1,8 @@
+use gi_model::{Call, Reply};
+
+/// An entry of a history: a call with its reply.
+#[derive(Debug, Drop)]
+pub struct Entry {
+    pub call: Call,
+    pub reply: Reply,
+}
