@@ -1,0 +1,101 @@
+-- Lists of views, and of entries.
+use Rattle.std.proofs.Common.{◌≡◌, ◌≢◌, ℕ, zero, suc, ◌+◌, ◌<◌, ◌≤◌, ◌⊎◌, inl, inr, false, cond, append-nil, List, [], ◌∷◌, ◌++◌, length, take, slice_index_or, set, sym, refl, ap, ◌∙◌, subst, ⊎_elim, append_assoc, arith, length-append}
+use Rattle.std.proofs.lemmas.List.{take-append-le}
+use mathlib.Core.Option.{some-injective, some-ne-none}
+use Rattle.std.specs.Prelude.{Contains}
+use Rattle.atomic_table.proofs.Lists.{at_set}
+use Rattle.gi_turn.specs.declared.view.Entry.{Entry}
+use Rattle.gi_turn.specs.declared.view.View.{View}
+use Rattle.gi_turn.specs.Entries.{At, phase_after, StartsWith, AreGlances}
+use Rattle.gi_turn.specs.Views.{left_of, calls_left, KnowsPhases}
+
+pub all_set : (F : ℕ → View → Type 0) (views : List View) (i : ℕ) (w : View) → F i w → ((j : ℕ) (u : View) → j ≢ i → At views j u → F j u) → (j : ℕ) (u : View) → At (set views i w) j u → F j u
+all_set F views i w mine others j u e = ⊎_elim (λ (x : (j ≡ i) × (w ≡ u)). subst (λ (y : ℕ × View). F y.0 y.1) (λ i. (sym x.0 i, x.1 i)) mine)
+    (λ (x : (j ≢ i) × At views j u). others j u x.0 x.1) (at_set views i j w u e)
+
+pub here : (views : List View) (i : ℕ) (v w : View) → At views i v → At (set views i w) i w
+here [] i v w at = absurd (some-ne-none v (sym at))
+here (x ∷ xs) zero v w at = refl
+here (x ∷ xs) (suc i) v w at = here xs i v w at
+
+pub same_view : (views : List View) (i : ℕ) (v w : View) → At views i v → At views i w → v ≡ w
+same_view views i v w a b = some-injective v w (sym a ∙ b)
+
+pub calls_set : (views : List View) (i : ℕ) (v w : View) → At views i v → calls_left (set views i w) + left_of v ≡ calls_left views + left_of w
+calls_set [] i v w at = absurd (some-ne-none v (sym at))
+calls_set (x ∷ xs) zero v w at = let e : left_of x ≡ left_of v = ap left_of (some-injective x v at) in omega arith
+calls_set (x ∷ xs) (suc i) v w at = let h = calls_set xs i v w at in omega arith
+
+pub left_alive : (v : View) → v.spent ≡ false → left_of v ≡ v.left
+left_alive v live = ap (λ b. cond b 0 v.left) live
+
+pub left_same : (v w : View) → w.left ≡ v.left → w.spent ≡ v.spent → left_of w ≡ left_of v
+left_same v w left live = λ i. cond (live i) 0 (left i)
+
+pub phase_after-append : (p : ℕ) (log : List Entry) (e : Entry) → phase_after p (log ++ e ∷ []) ≡ e.phase
+phase_after-append p [] e = refl
+phase_after-append p (x ∷ xs) e = phase_after-append x.phase xs e
+
+pub starts_longer : (log more seen : List Entry) → StartsWith log seen → StartsWith (log ++ more) seen
+starts_longer log more seen h = (h.0 ++ more, ap (λ l. l ++ more) h.1 ∙ append_assoc seen h.0 more)
+
+pub glances_longer : (first : ℕ) (log more : List Entry) (gs : List (ℕ × ℕ)) → AreGlances first log gs → AreGlances first (log ++ more) gs
+glances_longer first log more gs h k d lt =
+    let g : ℕ × ℕ = slice_index_or gs k d in
+    let is = h k d lt in
+    let le : g.0 ≤ length log = is.0 in
+    (omega (arith, length-append log more), is.1 ∙ sym (ap (phase_after first) (take-append-le g.0 log more le)))
+
+-- a seat whose glances are right of the whole history knows what it can of them
+pub knows_phases : (v : View) (log : List Entry) → StartsWith log v.seen → AreGlances v.opened log v.glances → KnowsPhases v
+knows_phases v log starts h k d lt reached =
+    let g : ℕ × ℕ = slice_index_or v.glances k d in
+    let cut : take g.0 log ≡ take g.0 v.seen = ap (take g.0) starts.1 ∙ take-append-le g.0 v.seen starts.0 reached in
+    (h k d lt).1 ∙ ap (phase_after v.opened) cut
+
+pub has_one : {A : Type 0} (x y : A) → Contains (x ∷ []) y → y ≡ x
+has_one x y (zero, lt, e) = sym e
+has_one x y (suc k, lt, e) = absurd (omega arith)
+
+pub has_cases : {A : Type 0} (x : A) (xs : List A) (y : A) → Contains (x ∷ xs) y → (y ≡ x) ⊎ Contains xs y
+has_cases x xs y (zero, lt, e) = inl (sym e)
+has_cases x xs y (suc k, lt, e) = inr (k, omega arith, e)
+
+pub has_none : {A : Type 0} (y : A) → Contains [] y → ⊥
+has_none y (k, lt, e) = omega arith
+
+-- the last place, or a place before it
+pub at_end : {A : Type 0} (l : List A) (a b : A) (j : ℕ) → At (l ++ a ∷ []) j b → At l j b ⊎ ((j ≡ length l) × (a ≡ b))
+at_end [] a b zero e = inr (refl, some-injective a b e)
+at_end [] a b (suc j) e = absurd (some-ne-none b (sym e))
+at_end (x ∷ xs) a b zero e = inl e
+at_end (x ∷ xs) a b (suc j) e = ⊎_elim (λ h. inl h) (λ h. inr (ap suc h.0, h.1)) (at_end xs a b j e)
+
+pub at_below : {A : Type 0} (l : List A) (j : ℕ) (b : A) → At l j b → j < length l
+at_below [] j b e = absurd (some-ne-none b (sym e))
+at_below (x ∷ xs) zero b e = omega arith
+at_below (x ∷ xs) (suc j) b e = let h = at_below xs j b e in omega arith
+
+pub prefix_length : (log seen : List Entry) → StartsWith log seen → length seen ≤ length log
+prefix_length log seen h = let e : length log ≡ length (seen ++ h.0) = ap length h.1 in let l : length (seen ++ h.0) ≡ length seen + length h.0 = length-append seen h.0 in omega arith
+
+pub prefix_whole : (log seen : List Entry) → StartsWith log seen → length log ≤ length seen → seen ≡ log
+prefix_whole log seen ([], e) le = sym (e ∙ append-nil seen)
+prefix_whole log seen (x ∷ xs, e) le = let h : length log ≡ length (seen ++ x ∷ xs) = ap length e in let l : length (seen ++ x ∷ xs) ≡ length seen + length (x ∷ xs) = length-append seen (x ∷ xs) in absurd (omega arith)
+
+-- of two beginnings of one list the shorter begins the longer
+prefixes : (a b r s : List Entry) → a ++ r ≡ b ++ s → length a ≤ length b → StartsWith b a
+prefixes [] b r s e le = (b, refl)
+prefixes (x ∷ xs) [] r s e le = absurd (omega arith)
+prefixes (x ∷ xs) (y ∷ ys) r s e le = let h : y ≡ x = cc in let t : xs ++ r ≡ ys ++ s = cc in let p = prefixes xs ys r s t (omega arith) in (p.0, λ i. h i ∷ p.1 i)
+
+pub prefix_prefix : (log a b : List Entry) → StartsWith log a → StartsWith log b → length a ≤ length b → StartsWith b a
+prefix_prefix log a b p q le = prefixes a b p.0 q.0 (sym p.1 ∙ q.1) le
+
+pub take_prefix : (xs ys : List Entry) → take (length xs) (xs ++ ys) ≡ xs
+take_prefix [] ys = refl
+take_prefix (x ∷ xs) ys = ap (λ l. x ∷ l) (take_prefix xs ys)
+
+pub calls_append : (views : List View) (w : View) → calls_left (views ++ w ∷ []) ≡ calls_left views + left_of w
+calls_append [] w = omega arith
+calls_append (v ∷ vs) w = let h = calls_append vs w in omega arith
