@@ -1,17 +1,17 @@
 -- Tickets, the value and the history.
-use Rattle.std.proofs.Common.{◌≡◌, ◌≢◌, ℕ, ◌+◌, ◌/◌, ◌%◌, ◌<◌, true, false, true≢false, cond, eqb, List, [], ◌∷◌, ◌++◌, length, take, set, sym, refl, ap, ◌∙◌, subst, arith, length-append, append-nil, eq-eqb, ne_eqb}
+use Rattle.std.proofs.Common.{◌≡◌, ◌≢◌, ℕ, ◌+◌, ◌/◌, ◌%◌, ◌<◌, true, false, true≢false, cond, eqb, List, [], ◌∷◌, ◌++◌, length, take, set, sym, refl, ap, ◌∙◌, subst, ⊎_elim, arith, length-append, append-nil, eq-eqb, ne_eqb}
 use Rattle.std.specs.Prelude.{Option, Some, None, Contains}
 use mathlib.Core.Logic.{dite}
 use mathlib.Core.Option.{Option as Place, none, some, some-ne-none}
 use native.Mathlib.Decide.{ℕ_discrete}
 use Rattle.std.proofs.lemmas.List.Elements.{All-push}
-use Rattle.atomic_table.proofs.Lists.{set_else}
+use Rattle.atomic_table.proofs.Lists.{set_else, at_longer}
 use Rattle.gi_turn.specs.declared.view.Entry.{Entry}
 use Rattle.gi_turn.specs.declared.view.View.{View}
 use Rattle.gi_turn.specs.Entries.{At, phase_after, StartsWith, IsGlance, AreGlances, head, glance_at}
-use Rattle.gi_turn.specs.Views.{after_look, after_draw, with_turn, out_of_turn}
+use Rattle.gi_turn.specs.Views.{after_look, after_draw, with_turn, out_of_turn, after_split, split_off, after_join, spent_view}
 use Rattle.gi_turn.specs.Turns.{IsSeenWhole, Home, Fits, Turns}
-use Rattle.gi_turn.proofs.Views.{all_set, here, same_view, phase_after-append, starts_longer, glances_longer}
+use Rattle.gi_turn.proofs.Views.{all_set, here, same_view, has_one, has_none, has_cases, at_end, phase_after-append, starts_longer, glances_longer, longer_is, prefix_length, prefix_whole}
 
 -- who has the ticket k after the seat id has drawn the ticket t
 abbrev pub handed : (ℕ → ℕ) → ℕ → ℕ → ℕ → ℕ
@@ -224,3 +224,75 @@ module _ {T : Type 0} (stands : T → List Entry → Type 0) (first : ℕ) where
             (d.0, set_else views id (holder n) w other ∙ d.1, d.2);
         whole = (id, w, here views id v w at, live, refl);
       }
+
+  -- a seat with no ticket comes
+  pub appended : (ticket : ℕ) (log : List Entry) (holder : ℕ → ℕ) (slot : Place (Option T)) (views : List View) (w : View) → Turns stands first ticket log holder slot views
+      → (w.spent ≡ false → w.opened ≡ first) → StartsWith log w.seen → w.ticket ≡ None → w.turn ≡ false → AreGlances first log w.glances → w.merged ≡ [] → Turns stands first ticket log holder slot (views ++ w ∷ [])
+  appended ticket log holder slot views w k opened seen tick turn glances none_merged = record {
+    small = k.small;
+    within = k.within;
+    home = k.home;
+    gone = λ away. let g = k.gone away in (g.0, at_longer views (w ∷ []) (holder (length log)) g.0 g.1, g.2);
+    each = λ j u there. ⊎_elim (λ old. k.each j u old)
+        (λ (new : (j ≡ length views) × (w ≡ u)). subst (Fits first ticket log holder slot j) new.1 (record {
+          opened = opened;
+          seen = seen;
+          low = λ n is. absurd cc;
+          high = λ n is. absurd cc;
+          own = λ n is. absurd cc;
+          turn = λ is. absurd (true≢false (sym is ∙ turn));
+          glances = glances;
+          merged = λ xs h. absurd (has_none xs (subst (λ l. Contains l xs) none_merged h));
+        }))
+        (at_end views w u j there);
+    drawn = λ n low high. let d = k.drawn n low high in (d.0, at_longer views (w ∷ []) (holder n) d.0 d.1, d.2);
+    whole = let h = k.whole in (h.0, h.1, at_longer views (w ∷ []) h.0 h.1 h.2, h.3, h.4);
+  }
+
+  pub splits_kept : (ticket : ℕ) (log : List Entry) (holder : ℕ → ℕ) (slot : Place (Option T)) (views : List View) (id : ℕ) (v : View) → Turns stands first ticket log holder slot views → At views id v → v.ticket ≡ None → v.turn ≡ false
+      → Turns stands first ticket log holder slot (set views id (after_split v) ++ split_off v ∷ [])
+  splits_kept ticket log holder slot views id v k at idle turn =
+      let mine = k.each id v at in
+      appended ticket log holder slot (set views id (after_split v)) (split_off v) (aside ticket log holder slot views id v (after_split v) k at refl refl refl refl refl mine.glances mine.merged) mine.opened mine.seen idle turn mine.glances refl
+
+  pub joins_kept : (ticket : ℕ) (log : List Entry) (holder : ℕ → ℕ) (slot : Place (Option T)) (views : List View) (id : ℕ) (v : View) (other : ℕ) (w : View) → Turns stands first ticket log holder slot views → At views id v → other ≢ id → At views other w → v.spent ≡ false
+      → v.ticket ≡ None → v.turn ≡ false → w.ticket ≡ None → w.turn ≡ false → Turns stands first ticket log holder slot (set (set views id (after_join v w)) other spent_view)
+  joins_kept ticket log holder slot views id v other w k at apart at' live idle turn idle' turn' =
+      let both : View = after_join v w in
+      let mid : List View = set views id both in
+      let mine = k.each id v at in
+      let theirs = k.each other w at' in
+      let starts : StartsWith log both.seen = ⊎_elim (λ h. subst (StartsWith log) (sym h.0) theirs.seen) (λ h. subst (StartsWith log) (sym h.0) mine.seen) (longer_is v.seen w.seen) in
+      let from_left : v.seen ≡ log → both.seen ≡ log = λ e. ⊎_elim
+      (λ h. let long = prefix_length log w.seen theirs.seen in let same : length v.seen ≡ length log = ap length e in let lt = h.1 in absurd (omega arith)) (λ h. h.0 ∙ e) (longer_is v.seen w.seen) in
+      let from_right : w.seen ≡ log → both.seen ≡ log = λ e. ⊎_elim (λ h. h.0 ∙ e)
+      (λ h. let le = h.1 in let same : length w.seen ≡ length log = ap length e in h.0 ∙ prefix_whole log v.seen mine.seen (omega arith)) (longer_is v.seen w.seen) in
+      let there : At mid other w = set_else views id other both apart ∙ at' in
+      let step : Turns stands first ticket log holder slot mid = noted_here ticket log holder slot views id v both k at refl refl
+      (record {
+        opened = mine.opened;
+        seen = starts;
+        low = mine.low;
+        high = mine.high;
+        own = mine.own;
+        turn = λ is. absurd (true≢false (sym is ∙ turn));
+        glances = mine.glances;
+        merged = λ xs h. ⊎_elim (λ e. subst (StartsWith log) (sym e) mine.seen) (λ h. subst (StartsWith log) (sym (has_one w.seen xs h)) theirs.seen) (has_cases v.seen (w.seen ∷ []) xs h);
+      })
+      (whole_stays log views id v both at refl from_left k.whole) in
+      noted_here ticket log holder slot mid other w spent_view step there (sym idle') (sym turn')
+      (record {
+        opened = λ alive. absurd cc;
+        seen = (log, refl);
+        low = λ n is. absurd cc;
+        high = λ n is. absurd cc;
+        own = λ n is. absurd cc;
+        turn = λ is. absurd cc;
+        glances = λ k d lt. absurd (omega arith);
+        merged = λ xs h. absurd (has_none xs h);
+      })
+      (let h = k.whole in dite (ℕ_discrete h.0 other)
+      (λ e. (id, both, set_else mid other id spent_view (λ x. apart (sym x)) ∙ here views id v both at, live, from_right (ap (λ (y : View). y.seen) (same_view views other w h.1 at' (subst (λ (j : ℕ). At views j h.1) e h.2)) ∙ h.4)))
+      (λ ne. let x = whole_stays log views id v both at refl from_left k.whole in dite (ℕ_discrete x.0 other)
+      (λ e. (id, both, set_else mid other id spent_view (λ y. apart (sym y)) ∙ here views id v both at, live, from_right (ap (λ (y : View). y.seen) (same_view mid other w x.1 there (subst (λ (j : ℕ). At mid j x.1) e x.2)) ∙ x.4)))
+      (λ ne'. (x.0, x.1, set_else mid other x.0 spent_view ne' ∙ x.2, x.3, x.4))))

@@ -1,13 +1,16 @@
 -- Lists of views, and of entries.
-use Rattle.std.proofs.Common.{◌≡◌, ◌≢◌, ℕ, zero, suc, ◌+◌, ◌<◌, ◌≤◌, ◌⊎◌, inl, inr, false, cond, append-nil, List, [], ◌∷◌, ◌++◌, length, take, slice_index_or, set, sym, refl, ap, ◌∙◌, subst, ⊎_elim, append_assoc, arith, length-append}
+use Rattle.std.proofs.Common.{◌≡◌, ◌≢◌, ℕ, zero, suc, ◌+◌, ◌<◌, ◌≤◌, ◌⊎◌, inl, inr, false, cond, lt-ltb, le-ltb, append-nil, List, [], ◌∷◌, ◌++◌, length, take, slice_index_or, set, sym, refl, ap, ◌∙◌, subst, ⊎_elim, append_assoc, arith, length-append}
 use Rattle.std.proofs.lemmas.List.{take-append-le}
 use mathlib.Core.Option.{some-injective, some-ne-none}
 use Rattle.std.specs.Prelude.{Contains}
-use Rattle.atomic_table.proofs.Lists.{at_set}
+use mathlib.Core.Logic.{dite}
+use native.Mathlib.Decide.{ℕ_discrete, dec_lt}
+use Rattle.atomic_table.proofs.Lists.{at_set, set_else}
 use Rattle.gi_turn.specs.declared.view.Entry.{Entry}
 use Rattle.gi_turn.specs.declared.view.View.{View}
-use Rattle.gi_turn.specs.Entries.{At, phase_after, StartsWith, AreGlances}
+use Rattle.gi_turn.specs.Entries.{At, phase_after, StartsWith, AreGlances, longer_of}
 use Rattle.gi_turn.specs.Views.{left_of, calls_left, KnowsPhases}
+use Rattle.gi_turn.specs.Numbers.{Held, Origin}
 
 pub all_set : (F : ℕ → View → Type 0) (views : List View) (i : ℕ) (w : View) → F i w → ((j : ℕ) (u : View) → j ≢ i → At views j u → F j u) → (j : ℕ) (u : View) → At (set views i w) j u → F j u
 all_set F views i w mine others j u e = ⊎_elim (λ (x : (j ≡ i) × (w ≡ u)). subst (λ (y : ℕ × View). F y.0 y.1) (λ i. (sym x.0 i, x.1 i)) mine)
@@ -57,6 +60,12 @@ pub has_one : {A : Type 0} (x y : A) → Contains (x ∷ []) y → y ≡ x
 has_one x y (zero, lt, e) = sym e
 has_one x y (suc k, lt, e) = absurd (omega arith)
 
+pub has_first : {A : Type 0} (x : A) (xs : List A) → Contains (x ∷ xs) x
+has_first x xs = (0, omega arith, refl)
+
+pub has_rest : {A : Type 0} (x : A) (xs : List A) (y : A) → Contains xs y → Contains (x ∷ xs) y
+has_rest x xs y (k, lt, e) = (suc k, omega arith, e)
+
 pub has_cases : {A : Type 0} (x : A) (xs : List A) (y : A) → Contains (x ∷ xs) y → (y ≡ x) ⊎ Contains xs y
 has_cases x xs y (zero, lt, e) = inl (sym e)
 has_cases x xs y (suc k, lt, e) = inr (k, omega arith, e)
@@ -99,3 +108,41 @@ take_prefix (x ∷ xs) ys = ap (λ l. x ∷ l) (take_prefix xs ys)
 pub calls_append : (views : List View) (w : View) → calls_left (views ++ w ∷ []) ≡ calls_left views + left_of w
 calls_append [] w = omega arith
 calls_append (v ∷ vs) w = let h = calls_append vs w in omega arith
+
+-- the longer of two lists
+pub longer_is : (xs ys : List Entry) → ((longer_of xs ys ≡ ys) × (length xs < length ys)) ⊎ ((longer_of xs ys ≡ xs) × (length ys ≤ length xs))
+longer_is xs ys = dite (dec_lt (length xs) (length ys))
+    (λ lt. inl (ap (λ b. cond b ys xs) (lt-ltb (length xs) (length ys) lt), lt))
+    (λ ge. inr (ap (λ b. cond b ys xs) (le-ltb (length xs) (length ys) (omega arith)), omega arith))
+
+-- what a view keeps, though it may have more
+pub record Grows (u w : View) : Type 0 where
+  pub held : (n : ℕ) → Contains u.held n → Contains w.held n
+  pub kin : (n : ℕ) → Contains u.kin n → Contains w.kin n
+  pub asked : (a : ℕ × ℕ) → Contains u.asked a → Contains w.asked a
+  pub seen : length u.seen ≤ length w.seen
+
+pub grows_same : (u : View) → Grows u u
+grows_same u = record { held = λ n h. h; kin = λ n h. h; asked = λ a h. h; seen = omega arith }
+
+-- whatever views know is known afterwards, and a seat of a held number has split no less
+pub record Change (views after : List View) : Type 0 where
+  pub stays : (i : ℕ) (u : View) → At views i u → (j : ℕ) × (w : View) × At after j w × Grows u w
+  pub back : (p : ℕ) → Held views p → (j : ℕ) (w : View) → At after j w → w.spent ≡ false → w.number ≡ p → (i : ℕ) × (u : View) × At views i u × (u.spent ≡ false) × (u.number ≡ p) × (u.splits ≤ w.splits)
+
+pub held_stays : (views after : List View) (n : ℕ) → Change views after → Held views n → Held after n
+held_stays views after n c h = let s = c.stays h.0 h.1 h.2 in (s.0, s.1, s.2, s.3.held n h.3)
+
+pub origin_stays : (views after : List View) (n : ℕ) → Change views after → Origin views n → Origin after n
+origin_stays views after n c o = (o.0, o.1, o.2, held_stays views after o.0 c o.3, λ j w there live is. let b = c.back o.0 o.3 j w there live is in let lt = o.4 b.0 b.1 b.2 b.3 b.4 in let le = b.5 in omega arith)
+
+-- one view changes, and keeps its number
+pub change_set : (views : List View) (id : ℕ) (v w : View) → At views id v → Grows v w → w.number ≡ v.number → w.spent ≡ v.spent → v.splits ≤ w.splits → Change views (set views id w)
+change_set views id v w at grows number live splits = record {
+  stays = λ i u there. dite (ℕ_discrete i id)
+      (λ e. let same : v ≡ u = same_view views id v u at (subst (λ (j : ℕ). At views j u) e there) in (id, w, here views id v w at, subst (λ (y : View). Grows y w) same grows))
+      (λ ne. (i, u, set_else views id i w ne ∙ there, grows_same u));
+  back = λ p held. all_set (λ j x. x.spent ≡ false → x.number ≡ p → (i : ℕ) × (u : View) × At views i u × (u.spent ≡ false) × (u.number ≡ p) × (u.splits ≤ x.splits)) views id w
+      (λ alive is. (id, v, at, sym live ∙ alive, sym number ∙ is, splits))
+      (λ j u other there alive is. (j, u, there, alive, is, omega arith));
+}

@@ -1,5 +1,5 @@
 -- Histories: lists of entries, and the word that tells how long one is.
-use Rattle.std.specs.Prelude.{◌≡◌, ℕ, ◌+◌, ◌*◌, ◌/◌, ◌%◌, ◌≤◌, List, [], ◌∷◌, ◌++◌, length, take, All}
+use Rattle.std.specs.Prelude.{◌≡◌, ℕ, ◌+◌, ◌*◌, ◌/◌, ◌%◌, ◌≤◌, List, [], ◌∷◌, ◌++◌, length, take, All, nat_lt, if◌then◌else◌}
 use mathlib.Core.Option.{some}
 use lib.ListN.{get_elem?}
 use Rattle.gi_turn.specs.declared.view.Entry.{Entry}
@@ -20,6 +20,10 @@ phase_after p (e ∷ es) = phase_after e.phase es
 -- the history begins with what was seen
 abbrev pub StartsWith : List Entry → List Entry → Type 0
 StartsWith log seen = (rest : List Entry) × (log ≡ seen ++ rest)
+
+-- the longer history
+abbrev pub longer_of : List Entry → List Entry → List Entry
+longer_of xs ys = (if nat_lt (length xs) (length ys) then ys else xs)
 
 -- the word HEAD of a history of this length and phase
 abbrev pub head : ℕ → ℕ → ℕ

@@ -1,12 +1,17 @@
 -- What seats know, and how each step changes it.
-use Rattle.std.specs.Prelude.{◌≡◌, ℕ, ◌+◌, ◌-◌, ◌^◌, ◌≤◌, true, false, List, [], ◌∷◌, ◌++◌, length, take, Some, None, All, if◌then◌else◌}
+use Rattle.std.specs.Prelude.{◌≡◌, ℕ, ◌+◌, ◌-◌, ◌/◌, ◌^◌, ◌≤◌, true, false, List, [], ◌∷◌, ◌++◌, length, take, Some, None, All, if◌then◌else◌}
 use Rattle.gi_turn.specs.declared.view.Entry.{Entry}
 use Rattle.gi_turn.specs.declared.view.View.{View}
-use Rattle.gi_turn.specs.Entries.{phase_after}
+use Rattle.gi_turn.specs.Entries.{phase_after, longer_of}
+use Rattle.gi_turn.specs.Numbers.{child}
 
 -- the first seat of a turnstile that begins with this phase
 abbrev pub first_view : ℕ → View
 first_view first = record { opened = first; spent = false; number = 0; splits = 0; held = 0 ∷ []; kin = []; left = 2 ^ 56; ticket = None; turn = false; seen = []; merged = []; glances = []; asked = []; marks = []; fresh = []; sees = 0 }
+
+-- what is left of a seat that was joined to another
+abbrev pub spent_view : View
+spent_view = record { opened = 0; spent = true; number = 0; splits = 0; held = []; kin = []; left = 0; ticket = None; turn = false; seen = []; merged = []; glances = []; asked = []; marks = []; fresh = []; sees = 0 }
 
 -- the seat has drawn the ticket k
 abbrev pub after_draw : View → ℕ → View
@@ -27,6 +32,26 @@ out_of_turn v log = record v { ticket = None; turn = false; seen = log }
 -- the seat has published the entry
 abbrev pub after_publish : View → Entry → View
 after_publish v e = out_of_turn v (v.seen ++ e ∷ [])
+
+-- the seat has split another off
+abbrev pub after_split : View → View
+after_split v = record v { left = v.left - v.left / 2; splits = v.splits + 1; kin = child v.number v.splits ∷ v.kin }
+
+-- the seat that was split off
+abbrev pub split_off : View → View
+split_off v = record v { left = v.left / 2; splits = 0; number = child v.number v.splits; held = child v.number v.splits ∷ []; kin = []; merged = []; asked = []; fresh = [] }
+
+-- the seat has taken the other in, and has not yet read that both histories are beginnings of one
+abbrev pub after_join : View → View → View
+after_join v w = record v { left = v.left + w.left; seen = longer_of v.seen w.seen; held = v.held ++ w.held; kin = v.kin ++ w.kin; asked = v.asked ++ w.asked; marks = v.marks ++ w.marks; merged = v.seen ∷ w.seen ∷ [] }
+
+-- the seat has read it
+abbrev pub after_settle : View → View
+after_settle v = record v { merged = [] }
+
+-- the seat has taken the other in
+abbrev pub join_of : View → View → View
+join_of v w = after_settle (after_join v w)
 
 -- the calls left of a seat, none where it is joined away
 abbrev pub left_of : View → ℕ
