@@ -33,6 +33,14 @@ out_of_turn v log = record v { ticket = None; turn = false; seen = log }
 abbrev pub after_publish : View → Entry → View
 after_publish v e = out_of_turn v (v.seen ++ e ∷ [])
 
+-- the seat has asked the mark
+abbrev pub after_ask : View → ℕ → View
+after_ask v mark = record v { asked = v.asked ++ (mark, length v.seen) ∷ [] }
+
+-- the seat has seen the mark
+abbrev pub after_see : View → ℕ → View
+after_see v mark = record v { marks = v.marks ++ mark ∷ []; fresh = v.fresh ++ mark ∷ []; sees = v.sees + 1 }
+
 -- the seat has split another off
 abbrev pub after_split : View → View
 after_split v = record v { left = v.left - v.left / 2; splits = v.splits + 1; kin = child v.number v.splits ∷ v.kin }
