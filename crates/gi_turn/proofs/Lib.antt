@@ -2,3 +2,4 @@ pub mod Views
 pub mod Turns
 pub mod Numbers
 pub mod Marks
+pub mod Kinship

@@ -10,7 +10,7 @@ use Rattle.gi_turn.specs.declared.view.Entry.{Entry}
 use Rattle.gi_turn.specs.declared.view.View.{View}
 use Rattle.gi_turn.specs.Entries.{At, phase_after, StartsWith, AreGlances, longer_of}
 use Rattle.gi_turn.specs.Views.{left_of, calls_left, KnowsPhases}
-use Rattle.gi_turn.specs.Numbers.{Held, Origin}
+use Rattle.gi_turn.specs.Numbers.{Held, Origin, Kin}
 use Rattle.gi_turn.specs.Marks.{AskedAt, Asked}
 
 pub all_set : (F : ℕ → View → Type 0) (views : List View) (i : ℕ) (w : View) → F i w → ((j : ℕ) (u : View) → j ≢ i → At views j u → F j u) → (j : ℕ) (u : View) → At (set views i w) j u → F j u
@@ -136,6 +136,9 @@ held_stays views after n c h = let s = c.stays h.0 h.1 h.2 in (s.0, s.1, s.2, s.
 
 pub origin_stays : (views after : List View) (n : ℕ) → Change views after → Origin views n → Origin after n
 origin_stays views after n c o = (o.0, o.1, o.2, held_stays views after o.0 c o.3, λ j w there live is. let b = c.back o.0 o.3 j w there live is in let lt = o.4 b.0 b.1 b.2 b.3 b.4 in let le = b.5 in omega arith)
+
+pub kin_stays : (views after : List View) (n : ℕ) → Change views after → Kin views n → Kin after n
+kin_stays views after n c k = let s = c.stays k.0 k.1 k.2 in (s.0, s.1, s.2, s.3.kin n k.3, (k.4.0, s.3.held k.4.0 k.4.1, k.4.2))
 
 pub asked_at_stays : (views after : List View) (mark l : ℕ) → Change views after → AskedAt views mark l → AskedAt after mark l
 asked_at_stays views after mark l c a = let s = c.stays a.0 a.1 a.2 in (s.0, s.1, s.2, s.3.asked (mark, l) a.3)

@@ -24,3 +24,12 @@ pub record Numbers (log : List Entry) (owner : ℕ → ℕ) (views : List View) 
   pub one : (i : ℕ) (v : View) (n : ℕ) → At views i v → Contains v.held n → owner n ≡ i
   pub from : (n : ℕ) → Held views n → n ≢ 0 → Origin views n
   pub entries : (k : ℕ) (e : Entry) → At log k e → (i : ℕ) × (v : View) × At views i v × Contains v.held e.by × (k < length v.seen)
+
+-- the number was split off by a seat that holds a smaller number
+abbrev pub Kin : List View → ℕ → Type 0
+Kin views n = (i : ℕ) × (v : View) × At views i v × Contains v.kin n × ((m : ℕ) × Contains v.held m × (m < n))
+
+-- The first seat has the number 0 until it is joined away, and each other number was split off by a seat that holds a smaller one.
+pub record Kinship (views : List View) : Type 0 where
+  pub first : (v : View) → At views 0 v → v.spent ≡ false → v.number ≡ 0
+  pub kin : (n : ℕ) → Held views n → n ≢ 0 → Kin views n

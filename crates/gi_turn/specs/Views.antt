@@ -1,5 +1,5 @@
 -- What seats know, and how each step changes it.
-use Rattle.std.specs.Prelude.{◌≡◌, ℕ, ◌+◌, ◌-◌, ◌/◌, ◌^◌, ◌≤◌, true, false, List, [], ◌∷◌, ◌++◌, length, take, Some, None, All, if◌then◌else◌}
+use Rattle.std.specs.Prelude.{◌≡◌, ℕ, ◌+◌, ◌-◌, ◌/◌, ◌^◌, ◌≤◌, true, false, List, [], ◌∷◌, ◌++◌, length, take, Some, None, All, Contains, if◌then◌else◌}
 use Rattle.gi_turn.specs.declared.view.Entry.{Entry}
 use Rattle.gi_turn.specs.declared.view.View.{View}
 use Rattle.gi_turn.specs.Entries.{phase_after, longer_of}
@@ -70,6 +70,14 @@ abbrev pub calls_left : List View → ℕ
 calls_left [] = 0
 calls_left (v ∷ vs) = left_of v + calls_left vs
 
+-- the seat holds the first number, and each that was split off by the seats that it took in
+abbrev pub Sole : View → Type 0
+Sole v = Contains v.held 0 × ((n : ℕ) → Contains v.kin n → Contains v.held n)
+
 -- a glance at a length that the seat's history has reached names the phase after so many entries
 abbrev pub KnowsPhases : View → Type 0
 KnowsPhases v = All (λ g. g.0 ≤ length v.seen → g.1 ≡ phase_after v.opened (take g.0 v.seen)) v.glances
+
+-- the seat holds the same numbers, and has split off the same
+abbrev pub HoldsAsBefore : View → View → Type 0
+HoldsAsBefore v w = (w.held ≡ v.held) × (w.kin ≡ v.kin) × (w.number ≡ v.number)
