@@ -4,3 +4,6 @@ pub mod Turns
 pub mod Numbers
 pub mod Marks
 pub mod Rule
+pub mod Steps
+pub mod Seats
+pub mod Known

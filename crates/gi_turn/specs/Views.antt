@@ -1,8 +1,8 @@
 -- What seats know, and how each step changes it.
-use Rattle.std.specs.Prelude.{◌≡◌, ℕ, ◌+◌, ◌-◌, ◌/◌, ◌^◌, ◌≤◌, true, false, List, [], ◌∷◌, ◌++◌, length, take, Some, None, All, Contains, if◌then◌else◌}
+use Rattle.std.specs.Prelude.{◌≡◌, ◌≢◌, ℕ, ◌+◌, ◌-◌, ◌/◌, ◌^◌, ◌<◌, ◌≤◌, true, false, List, [], ◌∷◌, ◌++◌, length, take, Some, None, All, Contains, if◌then◌else◌}
 use Rattle.gi_turn.specs.declared.view.Entry.{Entry}
 use Rattle.gi_turn.specs.declared.view.View.{View}
-use Rattle.gi_turn.specs.Entries.{phase_after, longer_of}
+use Rattle.gi_turn.specs.Entries.{At, phase_after, longer_of}
 use Rattle.gi_turn.specs.Numbers.{child}
 
 -- the first seat of a turnstile that begins with this phase
@@ -77,6 +77,18 @@ Sole v = Contains v.held 0 × ((n : ℕ) → Contains v.kin n → Contains v.hel
 -- a glance at a length that the seat's history has reached names the phase after so many entries
 abbrev pub KnowsPhases : View → Type 0
 KnowsPhases v = All (λ g. g.0 ≤ length v.seen → g.1 ≡ phase_after v.opened (take g.0 v.seen)) v.glances
+
+-- the entries of the history whose numbers the seat holds are those that it has seen
+abbrev pub OwnSeen : View → List Entry → Type 0
+OwnSeen v log = (k : ℕ) (e : Entry) → At log k e → Contains v.held e.by → k < length v.seen
+
+-- each mark of the history could be asked over what came before it
+abbrev pub IsLawful : (List Entry → ℕ → Type 0) → List Entry → Type 0
+IsLawful may log = (k : ℕ) (e : Entry) → At log k e → e.mark ≢ 0 → (l : ℕ) × (l ≤ k) × may (take l log) e.mark
+
+-- each mark of the history was asked by the seat, over what came before it
+abbrev pub AskedBy : View → List Entry → Type 0
+AskedBy v log = (k : ℕ) (e : Entry) → At log k e → e.mark ≢ 0 → (l : ℕ) × (l ≤ k) × Contains v.asked (e.mark, l)
 
 -- the seat holds the same numbers, and has split off the same
 abbrev pub HoldsAsBefore : View → View → Type 0
