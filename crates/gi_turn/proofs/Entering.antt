@@ -1,11 +1,11 @@
--- What a seat knows as it enters, and as it leaves.
-use Rattle.std.proofs.Common.{◌≡◌, ℕ, true, List, [], ◌∷◌, ◌++◌, sym, ap, subst, append-nil}
+-- What a seat knows as it enters.
+use Rattle.std.proofs.Common.{◌≡◌, ℕ, true, List, [], sym, ap, subst, append-nil}
 use Rattle.gi_turn.specs.declared.view.Entry.{Entry}
 use Rattle.gi_turn.specs.declared.view.View.{View}
 use Rattle.gi_turn.specs.Entries.{StartsWith, AreGlances}
-use Rattle.gi_turn.specs.Views.{KnowsPhases, OwnSeen, IsLawful, after_publish}
+use Rattle.gi_turn.specs.Views.{KnowsMarks, KnowsPhases, OwnSeen, IsLawful}
 use Rattle.gi_turn.specs.Steps.{HasEntered}
-use Rattle.gi_turn.proofs.Views.{glances_longer, knows_phases}
+use Rattle.gi_turn.proofs.Views.{knows_phases}
 
 module _ {T : Type 0} (stands : T → List Entry → Type 0) (may : List Entry → ℕ → Type 0) (v : View) (t : T) (w : View) (h : HasEntered stands may v t w) where
   pub entered_begins : StartsWith w.seen v.seen
@@ -29,6 +29,5 @@ module _ {T : Type 0} (stands : T → List Entry → Type 0) (may : List Entry �
   pub entered_phases : KnowsPhases w
   entered_phases = knows_phases w w.seen ([], sym (append-nil w.seen)) entered_glances
 
-  -- and after it has left with the entry e
-  pub left_phases : (e : Entry) → KnowsPhases (after_publish w e)
-  left_phases e = knows_phases (after_publish w e) (w.seen ++ e ∷ []) ([], sym (append-nil (w.seen ++ e ∷ []))) (glances_longer w.opened w.seen (e ∷ []) w.glances entered_glances)
+  pub entered_marks : KnowsMarks may w
+  entered_marks = subst (KnowsMarks may) (sym h.view) (h.finds.lawful, λ sole. (h.finds.sole sole).1)

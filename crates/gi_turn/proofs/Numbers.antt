@@ -8,9 +8,9 @@ use Rattle.atomic_table.proofs.Lists.{set_else, at_longer, at_last}
 use Rattle.gi_turn.specs.declared.view.Entry.{Entry}
 use Rattle.gi_turn.specs.declared.view.View.{View}
 use Rattle.gi_turn.specs.Entries.{At, StartsWith, longer_of}
-use Rattle.gi_turn.specs.Numbers.{child, Held, Numbers}
-use Rattle.gi_turn.specs.Views.{spent_view, after_split, split_off, after_join, after_settle, join_of}
-use Rattle.gi_turn.proofs.Views.{all_set, here, same_view, has_one, has_first, has_rest, has_none, at_end, longer_is, Grows, grows_same, Change, origin_stays, change_set}
+use Rattle.gi_turn.specs.Numbers.{child, Held, OwnIn, Numbers}
+use Rattle.gi_turn.specs.Views.{OwnSeen, spent_view, after_split, split_off, after_join, after_settle, join_of}
+use Rattle.gi_turn.proofs.Views.{all_set, here, same_view, has_one, has_first, has_rest, has_none, has_cases, at_end, longer_is, Grows, grows_same, Change, origin_stays, change_set}
 
 pub child_above : (n c : ℕ) → n < child n c
 child_above n zero = omega arith
@@ -28,8 +28,8 @@ held_before_set views id v w n at held h = all_set (λ j u. Contains u.held n �
 
 -- such a step, which does not change the number either, keeps the rule of numbers
 pub numbers_set : (log : List Entry) (owner : ℕ → ℕ) (views : List View) (id : ℕ) (v w : View) → Numbers log owner views → At views id v
-    → w.held ≡ v.held → w.number ≡ v.number → w.spent ≡ v.spent → Change views (set views id w) → Numbers log owner (set views id w)
-numbers_set log owner views id v w k at held number live c =
+    → w.held ≡ v.held → ((m : List ℕ × List Entry) → Contains w.merged m → Contains v.merged m) → w.number ≡ v.number → w.spent ≡ v.spent → Change views (set views id w) → Numbers log owner (set views id w)
+numbers_set log owner views id v w k at held merged number live c =
     let after : List View = set views id w in
     record {
       own = all_set (λ j u. u.spent ≡ false → Contains u.held u.number) views id w
@@ -38,19 +38,40 @@ numbers_set log owner views id v w k at held number live c =
       one = λ j u n there has. all_set (λ j u. Contains u.held n → owner n ≡ j) views id w (λ has. k.one id v n at (subst (λ l. Contains l n) held has)) (λ j u _ there has. k.one j u n there has) j u there has;
       from = λ n h ne. origin_stays views after n c (k.from n (held_before_set views id v w n at held h) ne);
       entries = λ p e there. let h = k.entries p e there in let s = c.stays h.0 h.1 h.2 in (s.0, s.1, s.2, s.3.held e.by h.3, (let le = s.3.seen in let lt = h.4 in omega arith));
+      merged = λ j u m there has. all_set (λ j u. Contains u.merged m → ((n : ℕ) → Contains m.0 n → Contains u.held n) × OwnIn m.0 (length m.1) log) views id w
+          (λ has. let x = k.merged id v m at (merged m has) in (λ n h. subst (λ l. Contains l n) (sym held) (x.0 n h), x.1)) (λ j u _ t has. k.merged j u m t has) j u there has;
     }
 
 -- an entry of the seat comes at the end of the history
-pub numbers_longer : (log : List Entry) (owner : ℕ → ℕ) (views : List View) (id : ℕ) (w : View) (e : Entry) → Numbers log owner views → At views id w → w.spent ≡ false → e.by ≡ w.number → length log < length w.seen
+pub numbers_longer : (log : List Entry) (owner : ℕ → ℕ) (views : List View) (id : ℕ) (w : View) (e : Entry) → Numbers log owner views → At views id w → w.spent ≡ false → w.merged ≡ [] → e.by ≡ w.number → length log < length w.seen
     → Numbers (log ++ e ∷ []) owner views
-numbers_longer log owner views id w e k at alive by seen = record {
+numbers_longer log owner views id w e k at alive none_merged by seen = record {
   own = k.own;
   one = k.one;
   from = k.from;
   entries = λ p x there. ⊎_elim (λ old. k.entries p x old)
       (λ (new : (p ≡ length log) × (e ≡ x)). (id, w, at, subst (λ n. Contains w.held n) (sym by ∙ ap (λ (y : Entry). y.by) new.1) (k.own id w at alive), (let is = new.0 in omega arith)))
       (at_end log e x p there);
+  merged = λ j u m there has. let x = k.merged j u m there has in (
+    x.0,
+    λ p y at_p mine. ⊎_elim (λ old. x.1 p y old mine)
+        (λ (new : (p ≡ length log) × (e ≡ y)).
+        let by_both : e.by ≡ y.by = ap (λ (z : Entry). z.by) new.1 in
+        let holds : Contains u.held e.by = x.0 e.by (subst (Contains m.0) (sym by_both) mine) in
+        let own : Contains w.held e.by = subst (Contains w.held) (sym by) (k.own id w at alive) in
+        let place : j ≡ id = sym (k.one j u e.by there holds) ∙ k.one id w e.by at own in
+        let same : u ≡ w = same_view views id u w (subst (λ (i : ℕ). At views i u) place there) at in
+        absurd (has_none m (subst (λ l. Contains l m) (ap (λ (z : View). z.merged) same ∙ none_merged) has)))
+        (at_end log e y p at_p),
+  );
 }
+
+-- a seat has seen each entry whose number it holds
+pub own_seen : (log : List Entry) (owner : ℕ → ℕ) (views : List View) (id : ℕ) (v : View) → Numbers log owner views → At views id v → OwnSeen v log
+own_seen log owner views id v r at k e there has =
+    let x = r.entries k e there in
+    let place : x.0 ≡ id = sym (r.one x.0 x.1 e.by x.2 x.3) ∙ r.one id v e.by at has in
+    subst (λ (y : View). k < length y.seen) (same_view views id x.1 v (subst (λ (j : ℕ). At views j x.1) place x.2) at) x.4
 
 -- the next number of a seat is new
 pub new_number : (log : List Entry) (owner : ℕ → ℕ) (views : List View) (id : ℕ) (v : View) → Numbers log owner views → At views id v → v.spent ≡ false → Held views (child v.number v.splits) → ⊥
@@ -126,6 +147,9 @@ numbers_split log owner views id v k at alive =
           ))
           (held_before_split views id v n at h);
       entries = λ p e there. let h = k.entries p e there in let s = c.stays h.0 h.1 h.2 in (s.0, s.1, s.2, s.3.held e.by h.3, (let le = s.3.seen in let lt = h.4 in omega arith));
+      merged = λ j u m there has. ⊎_elim
+          (λ before. all_set (λ j u. Contains u.merged m → ((n : ℕ) → Contains m.0 n → Contains u.held n) × OwnIn m.0 (length m.1) log) views id left (λ has. k.merged id v m at has) (λ j u _ t has. k.merged j u m t has) j u before has)
+          (λ (new : (j ≡ length mid) × (right ≡ u)). absurd (has_none m (subst (λ (y : View). Contains y.merged m) (sym new.1) has))) (at_end mid right u j there);
     }
 
 pub longer_left : (xs ys : List Entry) → length xs ≤ length (longer_of xs ys)
@@ -134,13 +158,16 @@ longer_left xs ys = ⊎_elim (λ h. let e : length (longer_of xs ys) ≡ length 
 pub longer_right : (xs ys : List Entry) → length ys ≤ length (longer_of xs ys)
 longer_right xs ys = ⊎_elim (λ h. let e : length (longer_of xs ys) ≡ length ys = ap length h.0 in omega arith) (λ h. let e : length (longer_of xs ys) ≡ length xs = ap length h.0 in let l = h.1 in omega arith) (longer_is xs ys)
 
--- the two histories that were joined are beginnings of the one that stays
-pub joined_one : (v w b c : View) → b ≡ after_join v w → c ≡ after_settle b → ((xs : List Entry) → Contains b.merged xs → length xs ≤ length b.seen → StartsWith b.seen xs) → StartsWith c.seen v.seen × StartsWith c.seen w.seen
+-- the two histories that were joined are beginnings of the one that stays, and have all entries of those who had seen them
+pub joined_one : (v w b c : View) → b ≡ after_join v w → c ≡ after_settle b → ((x : List ℕ × List Entry) → Contains b.merged x → length x.1 ≤ length b.seen → StartsWith b.seen x.1 × OwnIn x.0 (length x.1) b.seen)
+    → (StartsWith c.seen v.seen × OwnSeen v c.seen) × (StartsWith c.seen w.seen × OwnSeen w c.seen)
 joined_one v w b c e f h =
-    let F : View → Type 0 = λ y. (xs : List Entry) → Contains y.merged xs → length xs ≤ length y.seen → StartsWith y.seen xs in
+    let F : View → Type 0 = λ y. (x : List ℕ × List Entry) → Contains y.merged x → length x.1 ≤ length y.seen → StartsWith y.seen x.1 × OwnIn x.0 (length x.1) y.seen in
     let g : F (after_join v w) = subst F e h in
-    let R : View → Type 0 = λ y. StartsWith y.seen v.seen × StartsWith y.seen w.seen in
-    let r : R (join_of v w) = (g v.seen (has_first v.seen (w.seen ∷ [])) (longer_left v.seen w.seen), g w.seen (has_rest v.seen (w.seen ∷ []) w.seen (has_first w.seen [])) (longer_right v.seen w.seen)) in
+    let R : View → Type 0 = λ y. (StartsWith y.seen v.seen × OwnSeen v y.seen) × (StartsWith y.seen w.seen × OwnSeen w y.seen) in
+    let a : List ℕ × List Entry = (v.held, v.seen) in
+    let z : List ℕ × List Entry = (w.held, w.seen) in
+    let r : R (join_of v w) = (g a (has_first a (z ∷ [])) (longer_left v.seen w.seen), g z (has_rest a (z ∷ []) z (has_first z [])) (longer_right v.seen w.seen)) in
     subst R (sym (f ∙ ap after_settle e)) r
 
 pub change_join : (views : List View) (id : ℕ) (v : View) (other : ℕ) (w : View) → At views id v → other ≢ id → At views other w → Change views (set (set views id (after_join v w)) other spent_view)
@@ -193,10 +220,18 @@ numbers_join log owner views id v other w k at apart at' =
     (λ h. hit n (k.one other w n at' h))
     (Contains-append_cases v.held w.held n has))
     (λ j u _ t far has. let e = k.one j u n t has in miss n (λ x. far (sym e ∙ x)) ∙ e) j x t far) in
+    let F_merged : ℕ → View → Type 0 = λ j u. (m : List ℕ × List Entry) → Contains u.merged m → ((n : ℕ) → Contains m.0 n → Contains u.held n) × OwnIn m.0 (length m.1) log in
+    let G : List ℕ × List Entry → Type 0 = λ m. ((n : ℕ) → Contains m.0 n → Contains both.held n) × OwnIn m.0 (length m.1) log in
     record {
       own = all_set (λ j u. u.spent ≡ false → Contains u.held u.number) mid other spent_view (λ alive. absurd cc)
           (λ j x _ t. all_set (λ j u. u.spent ≡ false → Contains u.held u.number) views id both (λ alive. Contains-append_left v.held w.held v.number (k.own id v at alive)) (λ j u _ t. k.own j u t) j x t);
       one = λ j u n there has. old n j u there has;
       from = λ n h ne. origin_stays views after n c (k.from n (held_before_join views id v other w n at at' h) ne);
       entries = λ p e there. let h = k.entries p e there in let s = c.stays h.0 h.1 h.2 in (s.0, s.1, s.2, s.3.held e.by h.3, (let le = s.3.seen in let lt = h.4 in omega arith));
+      merged = λ j u m there has. all_set F_merged mid other spent_view (λ m has. absurd (has_none m has))
+          (λ j x _ t. all_set F_merged views id both
+          (λ m has. ⊎_elim (λ e. subst G (sym e) (λ n h. Contains-append_left v.held w.held n h, own_seen log owner views id v k at))
+          (λ h. subst G (sym (has_one (w.held, w.seen) m h)) (λ n h. Contains-append_right v.held w.held n h, own_seen log owner views other w k at'))
+          (has_cases (v.held, v.seen) ((w.held, w.seen) ∷ []) m has))
+          (λ j u _ t m has. k.merged j u m t has) j x t) j u there m has;
     }

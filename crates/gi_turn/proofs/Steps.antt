@@ -11,13 +11,13 @@ use Rattle.atomic_table.proofs.Lists.{set_else}
 use Rattle.gi_turn.specs.declared.view.Entry.{Entry}
 use Rattle.gi_turn.specs.declared.view.View.{View}
 use Rattle.gi_turn.specs.Entries.{At, entry_of, phase_after, AreGlances, head, glance_at}
-use Rattle.gi_turn.specs.Views.{KnowsPhases, first_view, spent_view, after_draw, after_look, with_turn, out_of_turn, after_ask, after_see, after_split, split_off, after_join, after_settle}
+use Rattle.gi_turn.specs.Views.{Sole, KnowsPhases, KnowsMarks, IsLawful, AskedBy, first_view, spent_view, after_draw, after_look, with_turn, out_of_turn, after_ask, after_see, after_split, split_off, after_join, after_settle}
 use Rattle.gi_turn.specs.Turns.{Fits, Turns}
 use Rattle.gi_turn.specs.Marks.{Marks, MarksOf}
 use Rattle.gi_turn.specs.Rule.{Rule}
 use Rattle.gi_turn.specs.Steps.{Draws, Glances, Looks, Publishes, Asks, Sees, Finds, Settles, glances_after}
-use Rattle.gi_turn.proofs.Views.{here, calls_set, left_alive, left_same, calls_append, has_one, has_none, prefix_length, prefix_prefix, same_view, phase_after-append, knows_phases, Change, change_set}
-use Rattle.gi_turn.proofs.Numbers.{given, taken, numbers_set, numbers_longer, numbers_split, numbers_join, change_split, change_join}
+use Rattle.gi_turn.proofs.Views.{here, calls_set, left_alive, left_same, calls_append, has_one, has_none, prefix_length, prefix_prefix, same_view, phase_after-append, knows_phases, at_prefix, lawful_prefix, Change, change_set}
+use Rattle.gi_turn.proofs.Numbers.{own_seen, given, taken, numbers_set, numbers_longer, numbers_split, numbers_join, change_split, change_join}
 use Rattle.gi_turn.proofs.Kinship.{kinship_set, kinship_split, kinship_join, sole_sees, sole_alone}
 use Rattle.gi_turn.proofs.Marks.{marks_set, marks_see, marks_ask, marks_longer, marks_split, marks_join}
 use Rattle.gi_turn.proofs.Turns.{handed, head_length, head_glance, draws_kept, aside, glances_right, turns_kept, at_home, publishes_kept, splits_kept, joins_kept}
@@ -70,6 +70,7 @@ module _ {T : Type 0} (stands : T → List Entry → Type 0) (may : List Entry �
       one = λ i v n at has. sym (at_one (first_view first) v i at).0;
       from = λ n h ne. absurd (ne (has_one 0 n (subst (λ (y : View). Contains y.held n) (sym (at_one (first_view first) h.1 h.0 h.2).1) h.3)));
       entries = λ k e at. absurd (some-ne-none e (sym at));
+      merged = λ i v m at has. absurd (has_none m (subst (λ (y : View). Contains y.merged m) (sym (at_one (first_view first) v i at).1) has));
     };
     kinship = record {
       first = λ v at _. sym (ap (λ (y : View). y.number) (at_one (first_view first) v 0 at).1);
@@ -111,7 +112,7 @@ module _ {T : Type 0} (stands : T → List Entry → Type 0) (may : List Entry �
           homes = r.homes;
           count = omega arith;
           turns = draws_kept stands first r.ticket r.log r.holder r.slot s.views id v r.turns at idle;
-          numbers = numbers_set r.log r.owner s.views id v w r.numbers at refl refl refl c;
+          numbers = numbers_set r.log r.owner s.views id v w r.numbers at refl (λ m h. h) refl refl c;
           kinship = kinship_set s.views id v w r.kinship at refl refl refl c;
           marks = marks_set may r.stop r.log s.views id w r.marks c (let m = r.marks.each id v at in record { asked = m.asked; seen = m.seen; fresh = λ mark h. absurd (has_none mark h); alive = m.alive });
         },
@@ -119,10 +120,10 @@ module _ {T : Type 0} (stands : T → List Entry → Type 0) (may : List Entry �
       )
 
   -- a step by which a seat learns, and no word changes
-  learnt : (s : State (Option T) View) (r : Holds s) (id : ℕ) (v w : View) → At s.views id v → w.left ≡ v.left → w.held ≡ v.held → w.kin ≡ v.kin → w.asked ≡ v.asked → w.number ≡ v.number → w.spent ≡ v.spent → w.splits ≡ v.splits
+  learnt : (s : State (Option T) View) (r : Holds s) (id : ℕ) (v w : View) → At s.views id v → w.left ≡ v.left → w.held ≡ v.held → ((m : List ℕ × List Entry) → Contains w.merged m → Contains v.merged m) → w.kin ≡ v.kin → w.asked ≡ v.asked → w.number ≡ v.number → w.spent ≡ v.spent → w.splits ≡ v.splits
       → length v.seen ≤ length w.seen → MarksOf may r.stop r.log s.views w → (homes : List (Place (Option T))) (next : Place (Option T)) → homes ≡ next ∷ [] → Turns stands first r.ticket r.log r.holder next (set s.views id w)
       → Holds record { words = r.ticket ∷ head (length r.log) (phase_after first r.log) ∷ r.stop ∷ []; homes = homes; views = set s.views id w }
-  learnt s r id v w at left held kin asked number live splits seen mine homes next is kept =
+  learnt s r id v w at left held merged kin asked number live splits seen mine homes next is kept =
       let c : Change s.views (set s.views id w) = change_set s.views id v w at (record { held = λ n h. subst (λ l. Contains l n) (sym held) h; kin = λ n h. subst (λ l. Contains l n) (sym kin) h; asked = λ a h. subst (λ l. Contains l a) (sym asked) h; seen = seen }) number live (omega arith) in
       let count = r.count in
       let sum = calls_set s.views id v w at in
@@ -138,7 +139,7 @@ module _ {T : Type 0} (stands : T → List Entry → Type 0) (may : List Entry �
         homes = is;
         count = omega arith;
         turns = kept;
-        numbers = numbers_set r.log r.owner s.views id v w r.numbers at held number live c;
+        numbers = numbers_set r.log r.owner s.views id v w r.numbers at held merged number live c;
         kinship = kinship_set s.views id v w r.kinship at held number live c;
         marks = marks_set may r.stop r.log s.views id w r.marks c mine;
       }
@@ -151,23 +152,33 @@ module _ {T : Type 0} (stands : T → List Entry → Type 0) (may : List Entry �
     alive = λ a h. live ∙ m.alive a (subst (λ xs. Contains xs a) asked h);
   }
 
-  -- the glances of a seat that has looked are right, and it knows what it can of them
-  looked : (s : State (Option T) View) (r : Holds s) (id : ℕ) (v : View) → At s.views id v → AreGlances first r.log (after_look v (length r.log, phase_after first r.log)).glances
-  looked s r id v at = glances_right first r.log v.glances (r.turns.each id v at).glances
+  -- each mark of the history could be asked over what came before it, and a sole seat has asked it
+  lawful : (s : State (Option T) View) (r : Holds s) → IsLawful may r.log
+  lawful s r k e there ne = let x = r.marks.entries k e there ne in let a = x.2 in (x.0, x.1, ((r.marks.each a.0 a.1 a.2).asked e.mark x.0 a.3).2)
 
-  tells_phases : (s : State (Option T) View) (r : Holds s) (id : ℕ) (v : View) → At s.views id v → v.spent ≡ false → KnowsPhases (after_look v (length r.log, phase_after first r.log))
-  tells_phases s r id v at live =
-      let fits = r.turns.each id v at in
-      let w : View = after_look v (length r.log, phase_after first r.log) in
-      knows_phases w r.log fits.seen (subst (λ (p : ℕ). AreGlances p r.log w.glances) (sym (fits.opened live)) (looked s r id v at))
+  sole_asked : (s : State (Option T) View) (r : Holds s) (id : ℕ) (v : View) → At s.views id v → Sole v → AskedBy v r.log
+  sole_asked s r id v at sole k e there ne =
+      let x = r.marks.entries k e there ne in
+      let a = x.2 in
+      let alive : a.1.spent ≡ false = (r.marks.each a.0 a.1 a.2).alive (e.mark, x.0) a.3 in
+      let place : a.0 ≡ id = sole_alone r.log r.owner s.views id v r.numbers r.kinship at sole a.0 a.1 a.1.number a.2 (r.numbers.own a.0 a.1 a.2 alive) in
+      (x.0, x.1, subst (λ (y : View). Contains y.asked (e.mark, x.0)) (same_view s.views id a.1 v (subst (λ (j : ℕ). At s.views j a.1) place a.2) at) a.3)
+
+  -- what a seat knows of its glances and of its history's marks, between any two steps
+  knows : (s : State (Option T) View) (r : Holds s) (id : ℕ) (v : View) → At s.views id v → v.spent ≡ false → KnowsPhases v × KnowsMarks may v
+  knows s r id v at live =
+      let fits = r.turns.each id v at in (
+        knows_phases v r.log fits.seen (subst (λ (p : ℕ). AreGlances p r.log v.glances) (sym (fits.opened live)) fits.glances),
+        (lawful_prefix may r.log v.seen fits.seen (lawful s r), λ sole k e there ne. sole_asked s r id v at sole k e (at_prefix r.log v.seen k e fits.seen there) ne),
+      )
 
   -- the rule after a look that does not bring the turn
   look_kept : (s : State (Option T) View) (r : Holds s) (id : ℕ) (v : View) → At s.views id v
       → Holds record { words = r.ticket ∷ head (length r.log) (phase_after first r.log) ∷ r.stop ∷ []; homes = s.homes; views = set s.views id (after_look v (length r.log, phase_after first r.log)) }
   look_kept s r id v at =
       let w : View = after_look v (length r.log, phase_after first r.log) in
-      learnt s r id v w at refl refl refl refl refl refl refl (omega arith) (same_marks s r id v w at refl refl refl refl) s.homes r.slot r.homes
-      (aside stands first r.ticket r.log r.holder r.slot s.views id v w r.turns at refl refl refl refl refl (looked s r id v at) (r.turns.each id v at).merged)
+      learnt s r id v w at refl refl (λ m h. h) refl refl refl refl refl (omega arith) (same_marks s r id v w at refl refl refl refl) s.homes r.slot r.homes
+      (aside stands first r.ticket r.log r.holder r.slot s.views id v w r.turns at refl refl refl refl refl (glances_right first r.log v.glances (r.turns.each id v at).glances) (r.turns.each id v at).merged)
 
   pub glances : (slots id : ℕ) (me : M) → me.0.spent ≡ false → Allows Holds slots id me 1 (λ n. n) (Glances (step slots 1 0 0 none) me)
   glances slots id me live s r _ at _ =
@@ -180,7 +191,8 @@ module _ {T : Type 0} (stands : T → List Entry → Type 0) (may : List Entry �
       let P : List ℕ → Type 0 = λ ws. (w : View) × (a : Act (Option T)) × Valid s.homes me.1 a
       × Holds record { words = set ws 1 (get_or ws 1 0); homes = homes_after s.homes me.1 a; views = set s.views id w }
       × Glances (step slots 1 0 0 none) me (get_or ws 1 0) (w, carried_after me.1 a) in
-      subst P (sym r.words) (w, keeps, tt, look_kept s r id v at, (is, refl, omega arith, subst KnowsPhases is (tells_phases s r id v at live)))
+      let after = look_kept s r id v at in
+      subst P (sym r.words) (w, keeps, tt, after, (is, refl, omega arith, (knows _ after id w (here s.views id v w at) live).0))
 
   -- what the rule tells a seat that sees the whole history
   finds : (s : State (Option T) View) (r : Holds s) (id : ℕ) (v : View) (t : T) → At s.views id v → v.spent ≡ false → stands t r.log → Finds stands may v (glances_after v [] r.log) r.log t
@@ -188,18 +200,10 @@ module _ {T : Type 0} (stands : T → List Entry → Type 0) (may : List Entry �
       let fits = r.turns.each id v at in record {
         starts = fits.seen;
         stands_for = right;
-        own_seen = λ k e there has. let x = r.numbers.entries k e there in
-            let place : x.0 ≡ id = sym (r.numbers.one x.0 x.1 e.by x.2 x.3) ∙ r.numbers.one id v e.by at has in
-            subst (λ (y : View). k < length y.seen) (same_view s.views id x.1 v (subst (λ (j : ℕ). At s.views j x.1) place x.2) at) x.4;
-        lawful = λ k e there ne. let x = r.marks.entries k e there ne in let a = x.2 in (x.0, x.1, ((r.marks.each a.0 a.1 a.2).asked e.mark x.0 a.3).2);
-        named = let is : v.opened ≡ first = fits.opened live in subst (λ (p : ℕ). AreGlances p r.log (v.glances ++ (length r.log, phase_after p r.log) ∷ [])) (sym is) (looked s r id v at);
-        sole = λ sole. (
-          sole_sees r.log r.owner s.views id v r.numbers r.kinship at fits.seen sole,
-          λ k e there ne. let x = r.marks.entries k e there ne in let a = x.2 in
-              let alive : a.1.spent ≡ false = (r.marks.each a.0 a.1 a.2).alive (e.mark, x.0) a.3 in
-              let place : a.0 ≡ id = sole_alone r.log r.owner s.views id v r.numbers r.kinship at sole a.0 a.1 a.1.number a.2 (r.numbers.own a.0 a.1 a.2 alive) in
-              (x.0, x.1, subst (λ (y : View). Contains y.asked (e.mark, x.0)) (same_view s.views id a.1 v (subst (λ (j : ℕ). At s.views j a.1) place a.2) at) a.3),
-        );
+        own_seen = own_seen r.log r.owner s.views id v r.numbers at;
+        lawful = lawful s r;
+        named = let is : v.opened ≡ first = fits.opened live in subst (λ (p : ℕ). AreGlances p r.log (v.glances ++ (length r.log, phase_after p r.log) ∷ [])) (sym is) (glances_right first r.log v.glances fits.glances);
+        sole = λ sole. (sole_sees r.log r.owner s.views id v r.numbers r.kinship at fits.seen sole, sole_asked s r id v at sole);
       }
 
   pub looks : (slots id : ℕ) (me : M) (k : ℕ) → me.0.ticket ≡ Some k → me.0.turn ≡ false → me.0.spent ≡ false → me.1 ≡ [] → Allows Holds slots id me 1 (λ n. n) (Looks stands may (step slots 1 0 0 none) me)
@@ -221,7 +225,7 @@ module _ {T : Type 0} (stands : T → List Entry → Type 0) (may : List Entry �
         w,
         takes 0 (Some h.0),
         ap (λ hs. get_elem? hs 0) slot,
-        learnt s r id v w at refl refl refl refl refl refl refl (prefix_length r.log v.seen fits.seen) (same_marks s r id v w at refl refl refl refl) (set s.homes 0 none) none (ap (λ hs. set hs 0 none) slot)
+        learnt s r id v w at refl refl (λ m h. h) refl refl refl refl refl (prefix_length r.log v.seen fits.seen) (same_marks s r id v w at refl refl refl refl) (set s.homes 0 none) none (ap (λ hs. set hs 0 none) slot)
             (turns_kept stands first r.ticket r.log r.holder h.0 s.views id v (subst (λ (p : Place (Option T)). Turns stands first r.ticket r.log r.holder p s.views) h.1 r.turns) at live tick),
         (λ n is_ticket. let same : k ≡ n = cc in (
           (λ e. (r.log, h.0, now ∙ same, finds s r id v h.0 at live h.2, is, ap (λ c. (0, Some h.0) ∷ c) bare)),
@@ -241,9 +245,9 @@ module _ {T : Type 0} (stands : T → List Entry → Type 0) (may : List Entry �
         )),
       )))
 
-  pub publishes : (slots id : ℕ) (me : M) (t : T) (e : Entry) (n ticket : ℕ) → me.0.turn ≡ true → me.0.spent ≡ false → me.0.ticket ≡ Some ticket → me.1 ≡ (0, Some t) ∷ [] → e.phase < 8 → e.by ≡ me.0.number → (e.mark ≢ 0 → Contains me.0.fresh e.mark)
-      → stands t (me.0.seen ++ e ∷ []) → n ≡ head (ticket + 1) e.phase → Allows Holds slots id me 1 (λ _. n) (λ _. Publishes e (step slots 1 n 0 none) me n)
-  publishes slots id me t e n ticket mine live drawn carried small by mark right number s r _ at _ =
+  pub publishes : (slots id : ℕ) (me : M) (t : T) (e : Entry) (n ticket : ℕ) → me.0.turn ≡ true → me.0.spent ≡ false → me.0.ticket ≡ Some ticket → me.0.merged ≡ [] → me.1 ≡ (0, Some t) ∷ [] → e.phase < 8 → e.by ≡ me.0.number → (e.mark ≢ 0 → Contains me.0.fresh e.mark)
+      → stands t (me.0.seen ++ e ∷ []) → n ≡ head (ticket + 1) e.phase → Allows Holds slots id me 1 (λ _. n) (λ _. Publishes may e (step slots 1 n 0 none) me n)
+  publishes slots id me t e n ticket mine live drawn settled carried small by mark right number s r _ at _ =
       let v : View = me.0 in
       let same : v.seen ≡ r.log = ((r.turns.each id v at).turn mine).2 in
       let log : List Entry = r.log ++ e ∷ [] in
@@ -261,27 +265,24 @@ module _ {T : Type 0} (stands : T → List Entry → Type 0) (may : List Entry �
       let marks : Marks may r.stop r.log after = marks_set may r.stop r.log s.views id w r.marks c (same_marks s r id v w at refl refl refl refl) in
       let count = r.count in
       let sum = calls_set s.views id v w at in
-      let same_left = left_same v w refl refl in (
-        w,
-        gives,
-        tt,
-        record {
-          ticket = r.ticket;
-          stop = r.stop;
-          log = log;
-          holder = r.holder;
-          owner = r.owner;
-          slot = some (Some t);
-          words = ap (λ ws. set ws 1 n) r.words ∙ ap (λ (m : ℕ). r.ticket ∷ m ∷ r.stop ∷ []) word;
-          homes = ap (λ c. homes_after s.homes c gives) carried ∙ ap (λ hs. set hs 0 (some (Some t))) r.homes;
-          count = omega arith;
-          turns = publishes_kept stands first r.ticket r.log r.holder r.slot t s.views id v e r.turns at live mine small (subst (stands t) is right);
-          numbers = numbers_longer r.log r.owner after id w e (numbers_set r.log r.owner s.views id v w r.numbers at refl refl refl c) there live by (omega arith);
-          kinship = kinship_set s.views id v w r.kinship at refl refl refl c;
-          marks = marks_longer may r.stop r.log after e marks (λ ne. let m = marks.each id w there in m.seen e.mark (m.fresh e.mark (mark ne)) ne);
-        },
-        (ap (out_of_turn v) (sym is), ap (λ c. carried_after c gives) carried),
-      )
+      let same_left = left_same v w refl refl in
+      let rule : Holds record { words = set s.words 1 n; homes = homes_after s.homes me.1 gives; views = after } = record {
+        ticket = r.ticket;
+        stop = r.stop;
+        log = log;
+        holder = r.holder;
+        owner = r.owner;
+        slot = some (Some t);
+        words = ap (λ ws. set ws 1 n) r.words ∙ ap (λ (m : ℕ). r.ticket ∷ m ∷ r.stop ∷ []) word;
+        homes = ap (λ c. homes_after s.homes c gives) carried ∙ ap (λ hs. set hs 0 (some (Some t))) r.homes;
+        count = omega arith;
+        turns = publishes_kept stands first r.ticket r.log r.holder r.slot t s.views id v e r.turns at live mine small (subst (stands t) is right);
+        numbers = numbers_longer r.log r.owner after id w e (numbers_set r.log r.owner s.views id v w r.numbers at refl (λ m h. h) refl refl c) there live settled by (omega arith);
+        kinship = kinship_set s.views id v w r.kinship at refl refl refl c;
+        marks = marks_longer may r.stop r.log after e marks (λ ne. let m = marks.each id w there in m.seen e.mark (m.fresh e.mark (mark ne)) ne);
+      } in
+      let k = knows _ rule id w there live in
+      (w, gives, tt, rule, (ap (out_of_turn v) (sym is), ap (λ c. carried_after c gives) carried, k.0, k.1))
 
   pub asks : (slots id : ℕ) (me : M) (mark : ℕ) → may me.0.seen mark → me.0.spent ≡ false → Allows Holds slots id me 2 (λ n. max n mark) (Asks (step slots 2 mark 0 none) me)
   asks slots id me mark allowed live s r _ at _ =
@@ -310,7 +311,7 @@ module _ {T : Type 0} (stands : T → List Entry → Type 0) (may : List Entry �
           homes = r.homes;
           count = omega arith;
           turns = aside stands first r.ticket r.log r.holder r.slot s.views id v w r.turns at refl refl refl refl refl fits.glances fits.merged;
-          numbers = numbers_set r.log r.owner s.views id v w r.numbers at refl refl refl c;
+          numbers = numbers_set r.log r.owner s.views id v w r.numbers at refl (λ m h. h) refl refl c;
           kinship = kinship_set s.views id v w r.kinship at refl refl refl c;
           marks = marks_ask may r.stop mark r.log s.views id v r.marks at fits.seen allowed live c;
         },
@@ -330,7 +331,7 @@ module _ {T : Type 0} (stands : T → List Entry → Type 0) (may : List Entry �
         w,
         keeps,
         tt,
-        learnt s r id v w at refl refl refl refl refl refl refl (omega arith) (marks_see may r.stop r.log s.views v r.marks m) s.homes r.slot r.homes
+        learnt s r id v w at refl refl (λ m h. h) refl refl refl refl refl (omega arith) (marks_see may r.stop r.log s.views v r.marks m) s.homes r.slot r.homes
             (aside stands first r.ticket r.log r.holder r.slot s.views id v w r.turns at refl refl refl refl refl fits.glances fits.merged),
         (refl, refl, (λ mark l has. (m.asked mark l has).0)),
       )
@@ -390,7 +391,7 @@ module _ {T : Type 0} (stands : T → List Entry → Type 0) (may : List Entry �
         marks = marks_join may r.stop r.log s.views id v other w r.marks at at' live c;
       }
 
-  pub settles : (slots id : ℕ) (me : M) → me.0.spent ≡ false → Allows Holds slots id me 0 (λ n. n) (Settles (step slots 0 0 0 none) me)
+  pub settles : (slots id : ℕ) (me : M) → me.0.spent ≡ false → Allows Holds slots id me 0 (λ n. n) (Settles may (step slots 0 0 0 none) me)
   settles slots id me live s r _ at _ =
       let v : View = me.0 in
       let w : View = after_settle v in
@@ -401,12 +402,24 @@ module _ {T : Type 0} (stands : T → List Entry → Type 0) (may : List Entry �
       let nothing = left_alive record v { left = 0 } live in
       let P : List ℕ → Type 0 = λ ws. (w : View) × (a : Act (Option T)) × Valid s.homes me.1 a
       × Holds record { words = set ws 0 (get_or ws 0 0); homes = homes_after s.homes me.1 a; views = set s.views id w }
-      × Settles (step slots 0 0 0 none) me (get_or ws 0 0) (w, carried_after me.1 a) in
+      × Settles may (step slots 0 0 0 none) me (get_or ws 0 0) (w, carried_after me.1 a) in
+      let after = learnt s r id v w at refl refl (λ m h. absurd (has_none m h)) refl refl refl refl refl (omega arith) (same_marks s r id v w at refl refl refl refl) s.homes r.slot r.homes
+      (aside stands first r.ticket r.log r.holder r.slot s.views id v w r.turns at refl refl refl refl refl fits.glances (λ m h. absurd (has_none m h))) in
+      let k = knows _ after id w (here s.views id v w at) live in
       subst P (sym r.words) (
         w,
         keeps,
         tt,
-        learnt s r id v w at refl refl refl refl refl refl refl (omega arith) (same_marks s r id v w at refl refl refl refl) s.homes r.slot r.homes
-            (aside stands first r.ticket r.log r.holder r.slot s.views id v w r.turns at refl refl refl refl refl fits.glances (λ xs h. absurd (has_none xs h))),
-        (refl, refl, omega arith, knows_phases v r.log fits.seen (subst (λ (p : ℕ). AreGlances p r.log v.glances) (sym (fits.opened live)) fits.glances), (λ xs has le. prefix_prefix r.log xs v.seen (fits.merged xs has) fits.seen le)),
+        after,
+        (
+          refl,
+          refl,
+          omega arith,
+          k.0,
+          k.1,
+          (λ m has le. (
+            prefix_prefix r.log m.1 v.seen (fits.merged m has) fits.seen le,
+            λ p e there mine. (r.numbers.merged id v m at has).1 p e (at_prefix r.log v.seen p e fits.seen there) mine,
+          )),
+        ),
       )

@@ -133,7 +133,7 @@ module _ {T : Type 0} (stands : T → List Entry → Type 0) (first : ℕ) where
 
   -- a change of what the turn is not about
   pub aside : (ticket : ℕ) (log : List Entry) (holder : ℕ → ℕ) (slot : Place (Option T)) (views : List View) (id : ℕ) (v w : View) → Turns stands first ticket log holder slot views → At views id v
-      → w.opened ≡ v.opened → w.spent ≡ v.spent → w.ticket ≡ v.ticket → w.turn ≡ v.turn → w.seen ≡ v.seen → AreGlances first log w.glances → ((xs : List Entry) → Contains w.merged xs → StartsWith log xs) → Turns stands first ticket log holder slot (set views id w)
+      → w.opened ≡ v.opened → w.spent ≡ v.spent → w.ticket ≡ v.ticket → w.turn ≡ v.turn → w.seen ≡ v.seen → AreGlances first log w.glances → ((m : List ℕ × List Entry) → Contains w.merged m → StartsWith log m.1) → Turns stands first ticket log holder slot (set views id w)
   aside ticket log holder slot views id v w k at opened live tick turn seen glances merged =
       let mine = k.each id v at in
       noted_here ticket log holder slot views id v w k at tick turn
@@ -206,7 +206,7 @@ module _ {T : Type 0} (stands : T → List Entry → Type 0) (first : ℕ) where
               own = λ n is. absurd cc;
               turn = λ is. absurd (true≢false (sym is));
               glances = glances_longer first log (e ∷ []) v.glances f.glances;
-              merged = λ xs h. starts_longer log (e ∷ []) xs (f.merged xs h);
+              merged = λ m h. starts_longer log (e ∷ []) m.1 (f.merged m h);
             })
             (λ j u other there. let g = k.each j u there in record {
               opened = g.opened;
@@ -216,7 +216,7 @@ module _ {T : Type 0} (stands : T → List Entry → Type 0) (first : ℕ) where
               own = g.own;
               turn = λ is. let x = (g.turn is).1 in absurd (other (sym (g.own (length log) x) ∙ own));
               glances = glances_longer first log (e ∷ []) u.glances g.glances;
-              merged = λ xs h. starts_longer log (e ∷ []) xs (g.merged xs h);
+              merged = λ m h. starts_longer log (e ∷ []) m.1 (g.merged m h);
             });
         drawn = λ n low high. let d = k.drawn n (omega arith) high in
             let other : holder n ≢ id = λ is. let same : d.0 ≡ v = same_view views id d.0 v (subst (λ (j : ℕ). At views j d.0) is d.1) at in
@@ -277,7 +277,8 @@ module _ {T : Type 0} (stands : T → List Entry → Type 0) (first : ℕ) where
         own = mine.own;
         turn = λ is. absurd (true≢false (sym is ∙ turn));
         glances = mine.glances;
-        merged = λ xs h. ⊎_elim (λ e. subst (StartsWith log) (sym e) mine.seen) (λ h. subst (StartsWith log) (sym (has_one w.seen xs h)) theirs.seen) (has_cases v.seen (w.seen ∷ []) xs h);
+        merged = λ m h. ⊎_elim (λ e. subst (λ (y : List ℕ × List Entry). StartsWith log y.1) (sym e) mine.seen)
+            (λ h. subst (λ (y : List ℕ × List Entry). StartsWith log y.1) (sym (has_one (w.held, w.seen) m h)) theirs.seen) (has_cases (v.held, v.seen) ((w.held, w.seen) ∷ []) m h);
       })
       (whole_stays log views id v both at refl from_left k.whole) in
       noted_here ticket log holder slot mid other w spent_view step there (sym idle') (sym turn')

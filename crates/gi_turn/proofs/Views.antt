@@ -5,11 +5,11 @@ use mathlib.Core.Option.{some-injective, some-ne-none}
 use Rattle.std.specs.Prelude.{Contains}
 use mathlib.Core.Logic.{dite}
 use native.Mathlib.Decide.{ℕ_discrete, dec_lt}
-use Rattle.atomic_table.proofs.Lists.{at_set, set_else}
+use Rattle.atomic_table.proofs.Lists.{at_set, set_else, at_longer}
 use Rattle.gi_turn.specs.declared.view.Entry.{Entry}
 use Rattle.gi_turn.specs.declared.view.View.{View}
 use Rattle.gi_turn.specs.Entries.{At, phase_after, StartsWith, AreGlances, longer_of}
-use Rattle.gi_turn.specs.Views.{left_of, calls_left, KnowsPhases}
+use Rattle.gi_turn.specs.Views.{left_of, calls_left, KnowsPhases, IsLawful}
 use Rattle.gi_turn.specs.Numbers.{Held, Origin, Kin}
 use Rattle.gi_turn.specs.Marks.{AskedAt, Asked}
 
@@ -105,6 +105,19 @@ prefix_prefix log a b p q le = prefixes a b p.0 q.0 (sym p.1 ∙ q.1) le
 pub take_prefix : (xs ys : List Entry) → take (length xs) (xs ++ ys) ≡ xs
 take_prefix [] ys = refl
 take_prefix (x ∷ xs) ys = ap (λ l. x ∷ l) (take_prefix xs ys)
+
+-- what stands in a beginning stands in the whole
+pub at_prefix : (log seen : List Entry) (k : ℕ) (e : Entry) → StartsWith log seen → At seen k e → At log k e
+at_prefix log seen k e starts there = subst (λ (xs : List Entry). At xs k e) (sym starts.1) (at_longer seen starts.0 k e there)
+
+-- marks that could be asked over the whole history could be asked over a beginning
+pub lawful_prefix : (may : List Entry → ℕ → Type 0) (log seen : List Entry) → StartsWith log seen → IsLawful may log → IsLawful may seen
+lawful_prefix may log seen starts h k e there ne =
+    let x = h k e (at_prefix log seen k e starts there) ne in
+    let le = x.1 in
+    let lt = at_below seen k e there in
+    let cut : take x.0 log ≡ take x.0 seen = ap (take x.0) starts.1 ∙ take-append-le x.0 seen starts.0 (omega arith) in
+    (x.0, x.1, subst (λ (xs : List Entry). may xs e.mark) cut x.2)
 
 pub calls_append : (views : List View) (w : View) → calls_left (views ++ w ∷ []) ≡ calls_left views + left_of w
 calls_append [] w = omega arith

@@ -18,12 +18,17 @@ abbrev pub Origin : List View → ℕ → Type 0
 Origin views n = (p : ℕ) × (c : ℕ) × (n ≡ child p c) × Held views p
     × ((i : ℕ) (v : View) → At views i v → v.spent ≡ false → v.number ≡ p → c < v.splits)
 
+-- the entries whose numbers are among these are the first so many alone
+abbrev pub OwnIn : List ℕ → ℕ → List Entry → Type 0
+OwnIn held size log = (k : ℕ) (e : Entry) → At log k e → Contains held e.by → k < size
+
 -- Seats' numbers differ, each is held by one seat, the one in the place owner n, and was split off a held number. Each entry has a number that some seat holds, and that seat has seen it.
 pub record Numbers (log : List Entry) (owner : ℕ → ℕ) (views : List View) : Type 0 where
   pub own : (i : ℕ) (v : View) → At views i v → v.spent ≡ false → Contains v.held v.number
   pub one : (i : ℕ) (v : View) (n : ℕ) → At views i v → Contains v.held n → owner n ≡ i
   pub from : (n : ℕ) → Held views n → n ≢ 0 → Origin views n
   pub entries : (k : ℕ) (e : Entry) → At log k e → (i : ℕ) × (v : View) × At views i v × Contains v.held e.by × (k < length v.seen)
+  pub merged : (i : ℕ) (v : View) (m : List ℕ × List Entry) → At views i v → Contains v.merged m → ((n : ℕ) → Contains m.0 n → Contains v.held n) × OwnIn m.0 (length m.1) log
 
 -- the number was split off by a seat that holds a smaller number
 abbrev pub Kin : List View → ℕ → Type 0

@@ -4,7 +4,8 @@ use Rattle.atomic_table.specs.Table.{Me, Step}
 use Rattle.gi_turn.specs.declared.view.Entry.{Entry}
 use Rattle.gi_turn.specs.declared.view.View.{View}
 use Rattle.gi_turn.specs.Entries.{phase_after, StartsWith, AreGlances, glance_at}
-use Rattle.gi_turn.specs.Views.{Sole, KnowsPhases, OwnSeen, IsLawful, AskedBy, after_draw, after_look, with_turn, after_publish, after_ask, after_see, after_settle}
+use Rattle.gi_turn.specs.Numbers.{OwnIn}
+use Rattle.gi_turn.specs.Views.{Sole, KnowsPhases, KnowsMarks, OwnSeen, IsLawful, AskedBy, after_draw, after_look, with_turn, after_publish, after_ask, after_see, after_settle}
 
 -- What a seat with the view v learns as its turn comes: the whole history, and the value, which stands for it.
 pub record Finds {T : Type 0} (stands : T → List Entry → Type 0) (may : List Entry → ℕ → Type 0) (v : View) (glances : List (ℕ × ℕ)) (log : List Entry) (t : T) : Type 0 where
@@ -37,12 +38,12 @@ module _ {T : Type 0} where
       × (m'.0 ≡ with_turn (after_look m.0 (length log, phase_after m.0.opened log)) log) × (m'.1 ≡ (0, Some t) ∷ []))
       × ((r / 8 ≡ k → ⊥) → (r / 8 < k) × (m'.0 ≡ after_look m.0 (glance_at r)) × (m'.1 ≡ m.1))
 
-  abbrev pub Publishes : Entry → Step (Option T) → Me (Option T) View → ℕ → Me (Option T) View → Type 0
-  Publishes e st m r m' = (m'.0 ≡ after_publish m.0 e) × (m'.1 ≡ [])
+  abbrev pub Publishes : (List Entry → ℕ → Type 0) → Entry → Step (Option T) → Me (Option T) View → ℕ → Me (Option T) View → Type 0
+  Publishes may e st m r m' = (m'.0 ≡ after_publish m.0 e) × (m'.1 ≡ []) × KnowsPhases m'.0 × KnowsMarks may m'.0
 
   -- a look of a seat that does not wait
   abbrev pub Glances : Step (Option T) → Me (Option T) View → ℕ → Me (Option T) View → Type 0
-  Glances st m r m' = (m'.0 ≡ after_look m.0 (glance_at r)) × (m'.1 ≡ m.1) × (length m.0.seen ≤ r / 8) × KnowsPhases (after_look m.0 (glance_at r))
+  Glances st m r m' = (m'.0 ≡ after_look m.0 (glance_at r)) × (m'.1 ≡ m.1) × (length m.0.seen ≤ r / 8) × KnowsPhases m'.0
 
   abbrev pub Asks : Step (Option T) → Me (Option T) View → ℕ → Me (Option T) View → Type 0
   Asks st m r m' = (m'.0 ≡ after_ask m.0 st.first) × (m'.1 ≡ m.1)
@@ -50,10 +51,10 @@ module _ {T : Type 0} where
   abbrev pub Sees : Step (Option T) → Me (Option T) View → ℕ → Me (Option T) View → Type 0
   Sees st m r m' = (m'.0 ≡ after_see m.0 r) × (m'.1 ≡ m.1) × ((mark l : ℕ) → Contains m.0.asked (mark, l) → mark ≤ r)
 
-  -- the seat has no more calls than all have together, and what it merged is one history
-  abbrev pub Settles : Step (Option T) → Me (Option T) View → ℕ → Me (Option T) View → Type 0
-  Settles st m r m' = (m'.0 ≡ after_settle m.0) × (m'.1 ≡ m.1) × (m.0.left ≤ 2 ^ 56) × KnowsPhases m.0
-      × ((xs : List Entry) → Contains m.0.merged xs → length xs ≤ length m.0.seen → StartsWith m.0.seen xs)
+  -- the seat has no more calls than all have together, the two histories that it merged are one, and each holds all entries of those who had seen it
+  abbrev pub Settles : (List Entry → ℕ → Type 0) → Step (Option T) → Me (Option T) View → ℕ → Me (Option T) View → Type 0
+  Settles may st m r m' = (m'.0 ≡ after_settle m.0) × (m'.1 ≡ m.1) × (m.0.left ≤ 2 ^ 56) × KnowsPhases m'.0 × KnowsMarks may m'.0
+      × ((x : List ℕ × List Entry) → Contains m.0.merged x → length x.1 ≤ length m.0.seen → StartsWith m.0.seen x.1 × OwnIn x.0 (length x.1) m.0.seen)
 
   -- the seat has no turn, and no value
   abbrev pub IsIdle : Me (Option T) View → Type 0
@@ -61,7 +62,7 @@ module _ {T : Type 0} where
 
   -- the turn of the ticket k is the seat's
   abbrev pub IsInTurn : Me (Option T) View → ℕ → Type 0
-  IsInTurn m k = (m.0.turn ≡ true) × (m.0.spent ≡ false) × (m.0.ticket ≡ Some k) × (k < 2 ^ 56)
+  IsInTurn m k = (m.0.turn ≡ true) × (m.0.spent ≡ false) × (m.0.ticket ≡ Some k) × (k < 2 ^ 56) × (m.0.merged ≡ [])
 
   -- while a seat waits for the ticket k it looks, in vain
   abbrev pub OnlyLooks : ℕ → Me (Option T) View → Me (Option T) View → Type 0

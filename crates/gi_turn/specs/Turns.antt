@@ -25,7 +25,7 @@ module _ {T : Type 0} where
     pub own : (k : ℕ) → v.ticket ≡ Some k → holder k ≡ i
     pub turn : v.turn ≡ true → (slot ≡ none) × (v.ticket ≡ Some (length log)) × (v.seen ≡ log)
     pub glances : AreGlances first log v.glances
-    pub merged : (xs : List Entry) → Contains v.merged xs → StartsWith log xs
+    pub merged : (m : List ℕ × List Entry) → Contains v.merged m → StartsWith log m.1
 
   -- Each ticket that is drawn and not used up is that of the seat in the place holder k. The value is out of the slot only with the seat whose turn it is.
   pub record Turns (stands : T → List Entry → Type 0) (first ticket : ℕ) (log : List Entry) (holder : ℕ → ℕ) (slot : Place (Option T)) (views : List View) : Type 0 where

@@ -1,9 +1,9 @@
 -- What seats know, and how each step changes it.
-use Rattle.std.specs.Prelude.{◌≡◌, ◌≢◌, ℕ, ◌+◌, ◌-◌, ◌/◌, ◌^◌, ◌<◌, ◌≤◌, true, false, List, [], ◌∷◌, ◌++◌, length, take, Some, None, All, Contains, if◌then◌else◌}
+use Rattle.std.specs.Prelude.{◌≡◌, ◌≢◌, ℕ, ◌+◌, ◌-◌, ◌/◌, ◌^◌, ◌≤◌, true, false, List, [], ◌∷◌, ◌++◌, length, take, Some, None, All, Contains, if◌then◌else◌}
 use Rattle.gi_turn.specs.declared.view.Entry.{Entry}
 use Rattle.gi_turn.specs.declared.view.View.{View}
 use Rattle.gi_turn.specs.Entries.{At, phase_after, longer_of}
-use Rattle.gi_turn.specs.Numbers.{child}
+use Rattle.gi_turn.specs.Numbers.{child, OwnIn}
 
 -- the first seat of a turnstile that begins with this phase
 abbrev pub first_view : ℕ → View
@@ -51,7 +51,7 @@ split_off v = record v { left = v.left / 2; splits = 0; number = child v.number 
 
 -- the seat has taken the other in, and has not yet read that both histories are beginnings of one
 abbrev pub after_join : View → View → View
-after_join v w = record v { left = v.left + w.left; seen = longer_of v.seen w.seen; held = v.held ++ w.held; kin = v.kin ++ w.kin; asked = v.asked ++ w.asked; marks = v.marks ++ w.marks; merged = v.seen ∷ w.seen ∷ [] }
+after_join v w = record v { left = v.left + w.left; seen = longer_of v.seen w.seen; held = v.held ++ w.held; kin = v.kin ++ w.kin; asked = v.asked ++ w.asked; marks = v.marks ++ w.marks; merged = (v.held, v.seen) ∷ (w.held, w.seen) ∷ [] }
 
 -- the seat has read it
 abbrev pub after_settle : View → View
@@ -80,7 +80,7 @@ KnowsPhases v = All (λ g. g.0 ≤ length v.seen → g.1 ≡ phase_after v.opene
 
 -- the entries of the history whose numbers the seat holds are those that it has seen
 abbrev pub OwnSeen : View → List Entry → Type 0
-OwnSeen v log = (k : ℕ) (e : Entry) → At log k e → Contains v.held e.by → k < length v.seen
+OwnSeen v = OwnIn v.held (length v.seen)
 
 -- each mark of the history could be asked over what came before it
 abbrev pub IsLawful : (List Entry → ℕ → Type 0) → List Entry → Type 0
@@ -89,6 +89,10 @@ IsLawful may log = (k : ℕ) (e : Entry) → At log k e → e.mark ≢ 0 → (l 
 -- each mark of the history was asked by the seat, over what came before it
 abbrev pub AskedBy : View → List Entry → Type 0
 AskedBy v log = (k : ℕ) (e : Entry) → At log k e → e.mark ≢ 0 → (l : ℕ) × (l ≤ k) × Contains v.asked (e.mark, l)
+
+-- each mark of the seat's history had its cause, and where the seat is sole it has asked it
+abbrev pub KnowsMarks : (List Entry → ℕ → Type 0) → View → Type 0
+KnowsMarks may v = IsLawful may v.seen × (Sole v → AskedBy v v.seen)
 
 -- the seat holds the same numbers, and has split off the same
 abbrev pub HoldsAsBefore : View → View → Type 0

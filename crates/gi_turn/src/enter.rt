@@ -2,7 +2,7 @@
 ghost use Rattle.std.specs.Prelude.{◌≡◌, ◌≢◌, ℕ, ◌<◌, ◌^◌, [], ◌∷◌, ◌++◌, length, All, None, Some, true, false, Contains};
 ghost use Rattle.gi_turn.specs.Entries.{StartsWith, entry_of};
 ghost use Rattle.gi_turn.specs.Steps.{HasEntered, HasTurn, IsIdle, IsInTurn};
-ghost use Rattle.gi_turn.specs.Views.{KnowsPhases, after_publish};
+ghost use Rattle.gi_turn.specs.Views.{KnowsPhases, KnowsMarks, after_publish};
 
 use crate::plays::{Adds, Draw, Look, Publish};
 use crate::seat::{Chair, Seat};
@@ -62,6 +62,7 @@ impl<T: Stands> Turnstile<T> {
         ensures turn { (view_of seat.new).turn ≡ true }
         ensures stands { T.stands result (view_of seat.new).seen }
         ensures phases { KnowsPhases (view_of seat.new) }
+        ensures marks { KnowsMarks T.may_ask (view_of seat.new) }
         ensures entered { HasEntered T.stands T.may_ask (view_of seat.old) result (view_of seat.new) }
     {
         let (ticket, value) = self.draw_and_wait(rt, &mut seat.chair);
@@ -81,6 +82,7 @@ impl<T: Stands> Turnstile<T> {
             × T.stands t (chair.old.me.0.seen ++ N.entry ∷ []) }
         ensures table { (chair.new.table_id ≡ chair.old.table_id) × (chair.new.id ≡ chair.old.id) }
         ensures published { (chair.new.me.0 ≡ after_publish chair.old.me.0 N.entry) × (chair.new.me.1 ≡ []) }
+        ensures knows { KnowsPhases chair.new.me.0 × KnowsMarks T.may_ask chair.new.me.0 }
     {
         self.table
             .shared
@@ -106,6 +108,7 @@ impl<T: Stands> Turnstile<T> {
         ensures published { (chair.new.me.0 ≡ after_publish chair.old.me.0
             (entry_of chair.old.me.0.number phase (E.mark entry.now) (E.told entry.now)))
             × (chair.new.me.1 ≡ []) }
+        ensures knows { KnowsPhases chair.new.me.0 × KnowsMarks T.may_ask chair.new.me.0 }
     {
         let gone = self.table.shared.exchange(chair, 0, Some(value));
         let None = gone else { unreachable!() };
@@ -125,6 +128,8 @@ impl<T: Stands> Turnstile<T> {
         ensures of { IsOf self.now seat.new }
         ensures published { view_of seat.new ≡ after_publish (view_of seat.old) (entry_of (view_of seat.old).number
             phase (E.mark entry.now) (E.told entry.now)) }
+        ensures phases { KnowsPhases (view_of seat.new) }
+        ensures marks { KnowsMarks T.may_ask (view_of seat.new) }
     {
         let ticket = seat.ticket;
         self.put_back(&mut seat.chair, ticket, value, entry, phase);

@@ -45,8 +45,8 @@ pub(crate) struct Publish<N> {
     adds: PhantomData<N>,
 }
 
-impl<T, N: Adds> Play<Option<T>, View> for Publish<N> {
-    ghost then = { Publishes N.entry };
+impl<T: Stands, N: Adds> Play<Option<T>, View> for Publish<N> {
+    ghost then = { Publishes T.may_ask N.entry };
 }
 
 /// A fetch-and-maximum on STOP.
@@ -78,9 +78,9 @@ impl Join<View> for Halves {
     ghost spent = { spent_view };
 }
 
-/// A load of TICKET right after a join, by which the seat reads that both histories are beginnings of one.
+/// A load of TICKET right after a join, by which the seat learns that both histories are beginnings of one.
 pub(crate) struct Settle;
 
-impl<T> Play<Option<T>, View> for Settle {
-    ghost then = { Settles };
+impl<T: Stands> Play<Option<T>, View> for Settle {
+    ghost then = { Settles T.may_ask };
 }

@@ -15,6 +15,7 @@ pub struct Seat<T> {
     ghost left_is: { left ≡ chair.me.0.left },
     ghost small: { ticket < 2 ^ 56 },
     ghost live: { chair.me.0.spent ≡ false },
+    ghost settled: { chair.me.0.merged ≡ [] },
     ghost ticket_is: { chair.me.0.ticket ≡ (if chair.me.0.turn then Some ticket else None) },
     ghost carried: { chair.me.1 ≡ (if chair.me.0.turn then (0, None) ∷ [] else []) },
 }

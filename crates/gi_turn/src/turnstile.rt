@@ -1,7 +1,7 @@
 // The turnstile, and the calls that wait for nobody.
 ghost use Rattle.std.specs.Prelude.{◌≡◌, ℕ, ◌<◌, ◌≤◌, [], length, false, Contains, IfOk};
 ghost use Rattle.gi_turn.specs.Entries.{StartsWith};
-ghost use Rattle.gi_turn.specs.Views.{first_view, after_look, after_ask, after_see, after_split, split_off, join_of, KnowsPhases};
+ghost use Rattle.gi_turn.specs.Views.{first_view, after_look, after_ask, after_see, after_split, split_off, join_of, KnowsPhases, KnowsMarks, OwnSeen};
 
 use crate::plays::{Ask, Glance, Halves, See, Settle};
 use crate::rule::InTurn;
@@ -113,7 +113,9 @@ impl<T: Stands> Turnstile<T> {
         ensures joined { view_of into.new ≡ join_of (view_of into.old) (view_of other) }
         ensures one { StartsWith (view_of into.new).seen (view_of into.old).seen
             × StartsWith (view_of into.new).seen (view_of other).seen }
+        ensures own { OwnSeen (view_of into.old) (view_of into.new).seen × OwnSeen (view_of other) (view_of into.new).seen }
         ensures phases { KnowsPhases (view_of into.new) }
+        ensures marks { KnowsMarks T.may_ask (view_of into.new) }
     {
         let Seat {
             chair,

@@ -34,8 +34,8 @@ pub struct View {
     pub turn: bool,
     /// The beginning of the history that it has seen.
     pub seen: LinkedList<Entry>,
-    /// Two histories that it has just joined.
-    pub merged: LinkedList<LinkedList<Entry>>,
+    /// The numbers and the histories of the two that have just been joined to it.
+    pub merged: LinkedList<(LinkedList<u64>, LinkedList<Entry>)>,
     /// A length and a phase for each look.
     pub glances: LinkedList<(u64, u64)>,
     /// Each mark that it asked, with the length of the history that it had seen then.

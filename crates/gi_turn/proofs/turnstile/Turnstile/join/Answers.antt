@@ -1,7 +1,6 @@
-use Rattle.std.proofs.Common.{cond, Option, Some, None, [], ◌∷◌, ap, sym, subst, ◌∙◌, rules}
+use Rattle.std.proofs.Common.{cond, Option, Some, None, [], ◌∷◌, ap, ◌∙◌, rules}
 use Rattle.atomic_table.specs.Table.{Me}
 use Rattle.gi_turn.specs.declared.view.View.{View}
-use Rattle.gi_turn.specs.Views.{KnowsPhases}
 use Rattle.gi_turn.proofs.Numbers.{joined_one}
 use Rattle.gi_turn.proofs.Steps.{joins, settles}
 use Rattle.gi_turn.proofs.turnstile.Turnstile.join.Goals as goal
@@ -26,8 +25,10 @@ load-requires g c =
 
 pub returns-clause-one : goal.returns-clause-one
 returns-clause-one g c =
-    let e = c.join_seat.ensures.2 in
-    joined_one c.args.into.now.chair.me.0 c.args.other.chair.me.0 c.join_seat.new.seat.me.0 c.load.new.seat.me.0 (ap (λ (m : Me (Option g.row.T.Denot) View). m.0) e) c.load.ensures.2.0 c.load.ensures.2.4
+    let x = joined_one c.args.into.now.chair.me.0 c.args.other.chair.me.0 c.join_seat.new.seat.me.0 c.load.new.seat.me.0 (ap (λ (m : Me (Option g.row.T.Denot) View). m.0) c.join_seat.ensures.2) c.load.ensures.2.0 c.load.ensures.2.5 in
+    (x.0.0, x.1.0)
 
-pub returns-clause-phases : goal.returns-clause-phases
-returns-clause-phases g c = subst KnowsPhases (sym c.load.ensures.2.0) c.load.ensures.2.3
+pub returns-clause-own : goal.returns-clause-own
+returns-clause-own g c =
+    let x = joined_one c.args.into.now.chair.me.0 c.args.other.chair.me.0 c.join_seat.new.seat.me.0 c.load.new.seat.me.0 (ap (λ (m : Me (Option g.row.T.Denot) View). m.0) c.join_seat.ensures.2) c.load.ensures.2.0 c.load.ensures.2.5 in
+    (x.0.1, x.1.1)
