@@ -37,5 +37,6 @@ glance_at word = (word / 8, word % 8)
 abbrev pub IsGlance : ℕ → List Entry → ℕ × ℕ → Type 0
 IsGlance first log g = (g.0 ≤ length log) × (g.1 ≡ phase_after first (take g.0 log))
 
+-- each is such a glance
 abbrev pub AreGlances : ℕ → List Entry → List (ℕ × ℕ) → Type 0
 AreGlances first log = All (IsGlance first log)

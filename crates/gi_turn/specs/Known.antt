@@ -1,4 +1,4 @@
--- What a type that holds a seat may show of it: which turnstile it is of, and what it knows.
+-- What a type that holds a seat may show of it.
 use base.Stored.{Coded, coded×, coded_via}
 use Rattle.std.specs.Prelude.{◌≡◌}
 use Rattle.atomic_table.specs.Seated.{TableId, table_id_coded}
@@ -7,6 +7,7 @@ use Rattle.gi_turn.specs.declared.seat.Seat.{Seat}
 use Rattle.gi_turn.specs.declared.turnstile.Turnstile.{Turnstile}
 use Rattle.gi_turn.specs.contracts.view.View.{the_row}
 
+-- the turnstile of a seat, and what the seat knows
 pub record Known : Type 0 where
   pub place : TableId
   pub view : View

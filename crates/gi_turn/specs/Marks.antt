@@ -8,6 +8,7 @@ use Rattle.gi_turn.specs.Entries.{At}
 abbrev pub AskedAt : List View → ℕ → ℕ → Type 0
 AskedAt views mark l = (i : ℕ) × (v : View) × At views i v × Contains v.asked (mark, l)
 
+-- some seat has asked the mark
 abbrev pub Asked : List View → ℕ → Type 0
 Asked views mark = (l : ℕ) × AskedAt views mark l
 

@@ -18,11 +18,11 @@ abbrev pub Origin : List View → ℕ → Type 0
 Origin views n = (p : ℕ) × (c : ℕ) × (n ≡ child p c) × Held views p
     × ((i : ℕ) (v : View) → At views i v → v.spent ≡ false → v.number ≡ p → c < v.splits)
 
--- the entries whose numbers are among these are the first so many alone
+-- the entries whose numbers are among these stand within the first so many
 abbrev pub OwnIn : List ℕ → ℕ → List Entry → Type 0
 OwnIn held size log = (k : ℕ) (e : Entry) → At log k e → Contains held e.by → k < size
 
--- Seats' numbers differ, each is held by one seat, the one in the place owner n, and was split off a held number. Each entry has a number that some seat holds, and that seat has seen it.
+-- Seats' numbers differ, each is held by one seat, the one in the place owner n, and was split off a held number. Each entry has a number that some seat holds, and that seat has seen it. Of two that were just joined each had seen all its own.
 pub record Numbers (log : List Entry) (owner : ℕ → ℕ) (views : List View) : Type 0 where
   pub own : (i : ℕ) (v : View) → At views i v → v.spent ≡ false → Contains v.held v.number
   pub one : (i : ℕ) (v : View) (n : ℕ) → At views i v → Contains v.held n → owner n ≡ i

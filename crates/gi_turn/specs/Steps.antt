@@ -7,7 +7,7 @@ use Rattle.gi_turn.specs.Entries.{phase_after, StartsWith, AreGlances, glance_at
 use Rattle.gi_turn.specs.Numbers.{OwnIn}
 use Rattle.gi_turn.specs.Views.{Sole, KnowsPhases, KnowsMarks, OwnSeen, IsLawful, AskedBy, after_draw, after_look, with_turn, after_publish, after_ask, after_see, after_settle}
 
--- What a seat with the view v learns as its turn comes: the whole history, and the value, which stands for it.
+-- What a seat with the view v learns as its turn comes: the whole history with no entry of its own that it had not seen, the value, which stands for it, the causes of all marks, and that its glances were right.
 pub record Finds {T : Type 0} (stands : T → List Entry → Type 0) (may : List Entry → ℕ → Type 0) (v : View) (glances : List (ℕ × ℕ)) (log : List Entry) (t : T) : Type 0 where
   pub starts : StartsWith log v.seen
   pub stands_for : stands t log
@@ -29,29 +29,34 @@ pub record HasEntered {T : Type 0} (stands : T → List Entry → Type 0) (may :
   pub view : w ≡ record v { left = v.left - 1; ticket = Some (length log); turn = true; seen = log; glances = glances_after v vain log; fresh = [] }
 
 module _ {T : Type 0} where
+  -- the seat has drawn the ticket r
   abbrev pub Draws : Step (Option T) → Me (Option T) View → ℕ → Me (Option T) View → Type 0
   Draws st m r m' = (m'.0 ≡ after_draw m.0 r) × (m'.1 ≡ m.1) × (r < 2 ^ 56)
 
+  -- the seat, which waits, has read r: where the history is as long as its ticket it has the turn and the slot, else it waits on
   abbrev pub Looks : (T → List Entry → Type 0) → (List Entry → ℕ → Type 0) → Step (Option T) → Me (Option T) View → ℕ → Me (Option T) View → Type 0
   Looks stands may st m r m' = (k : ℕ) → m.0.ticket ≡ Some k
       → (r / 8 ≡ k → (log : List Entry) × (t : T) × (length log ≡ k) × Finds stands may m.0 (glances_after m.0 [] log) log t
       × (m'.0 ≡ with_turn (after_look m.0 (length log, phase_after m.0.opened log)) log) × (m'.1 ≡ (0, Some t) ∷ []))
       × ((r / 8 ≡ k → ⊥) → (r / 8 < k) × (m'.0 ≡ after_look m.0 (glance_at r)) × (m'.1 ≡ m.1))
 
+  -- the seat's entry stands at the end of the history, and its turn is over
   abbrev pub Publishes : (List Entry → ℕ → Type 0) → Entry → Step (Option T) → Me (Option T) View → ℕ → Me (Option T) View → Type 0
   Publishes may e st m r m' = (m'.0 ≡ after_publish m.0 e) × (m'.1 ≡ []) × KnowsPhases m'.0 × KnowsMarks may m'.0
 
-  -- a look of a seat that does not wait
+  -- the seat, which does not wait, has read r
   abbrev pub Glances : Step (Option T) → Me (Option T) View → ℕ → Me (Option T) View → Type 0
   Glances st m r m' = (m'.0 ≡ after_look m.0 (glance_at r)) × (m'.1 ≡ m.1) × (length m.0.seen ≤ r / 8) × KnowsPhases m'.0
 
+  -- the seat has asked the mark that the step was given
   abbrev pub Asks : Step (Option T) → Me (Option T) View → ℕ → Me (Option T) View → Type 0
   Asks st m r m' = (m'.0 ≡ after_ask m.0 st.first) × (m'.1 ≡ m.1)
 
+  -- the seat has read the mark r, which is no less than any that it asked
   abbrev pub Sees : Step (Option T) → Me (Option T) View → ℕ → Me (Option T) View → Type 0
   Sees st m r m' = (m'.0 ≡ after_see m.0 r) × (m'.1 ≡ m.1) × ((mark l : ℕ) → Contains m.0.asked (mark, l) → mark ≤ r)
 
-  -- the seat has no more calls than all have together, the two histories that it merged are one, and each holds all entries of those who had seen it
+  -- the seat has no more calls than all have together, both histories that it merged begin the longer one, and beyond its own each of the two had no entry there
   abbrev pub Settles : (List Entry → ℕ → Type 0) → Step (Option T) → Me (Option T) View → ℕ → Me (Option T) View → Type 0
   Settles may st m r m' = (m'.0 ≡ after_settle m.0) × (m'.1 ≡ m.1) × (m.0.left ≤ 2 ^ 56) × KnowsPhases m'.0 × KnowsMarks may m'.0
       × ((x : List ℕ × List Entry) → Contains m.0.merged x → length x.1 ≤ length m.0.seen → StartsWith m.0.seen x.1 × OwnIn x.0 (length x.1) m.0.seen)

@@ -74,14 +74,16 @@ impl<T: Stands> Turnstile<T> {
     // The one event of a turn: the history has the entry from here on, and the slot is given back with the value in it.
     fn publish<E: Entered, N: Adds>(&self, chair: &mut Chair<T>, ticket: u64, entry: &E, phase: u8)
         requires table { chair.old.table_id ≡ self.now.table.shared.table_id }
-        requires adds { N.entry ≡ entry_of chair.old.me.0.number phase (E.mark entry.now) (E.told entry.now) }
+        requires adds { N.entry
+            ≡ entry_of chair.old.me.0.number phase (E.mark entry.now) (E.told entry.now) }
         requires turn { IsInTurn chair.old.me ticket }
         requires phase { phase < 8 }
         requires mark { E.mark entry.now ≢ 0 → Contains chair.old.me.0.fresh (E.mark entry.now) }
         requires stands { (t : T) × (chair.old.me.1 ≡ (0, Some t) ∷ [])
             × T.stands t (chair.old.me.0.seen ++ N.entry ∷ []) }
         ensures table { (chair.new.table_id ≡ chair.old.table_id) × (chair.new.id ≡ chair.old.id) }
-        ensures published { (chair.new.me.0 ≡ after_publish chair.old.me.0 N.entry) × (chair.new.me.1 ≡ []) }
+        ensures published { (chair.new.me.0 ≡ after_publish chair.old.me.0 N.entry)
+            × (chair.new.me.1 ≡ []) }
         ensures knows { KnowsPhases chair.new.me.0 × KnowsMarks T.may_ask chair.new.me.0 }
     {
         self.table
@@ -123,11 +125,11 @@ impl<T: Stands> Turnstile<T> {
         requires turn { (view_of seat.old).turn ≡ true }
         requires phase { phase < 8 }
         requires mark { E.mark entry.now ≢ 0 → Contains (view_of seat.old).fresh (E.mark entry.now) }
-        requires stands { T.stands value ((view_of seat.old).seen ++ entry_of (view_of seat.old).number phase
-            (E.mark entry.now) (E.told entry.now) ∷ []) }
+        requires stands { T.stands value ((view_of seat.old).seen
+            ++ entry_of (view_of seat.old).number phase (E.mark entry.now) (E.told entry.now) ∷ []) }
         ensures of { IsOf self.now seat.new }
-        ensures published { view_of seat.new ≡ after_publish (view_of seat.old) (entry_of (view_of seat.old).number
-            phase (E.mark entry.now) (E.told entry.now)) }
+        ensures published { view_of seat.new ≡ after_publish (view_of seat.old)
+            (entry_of (view_of seat.old).number phase (E.mark entry.now) (E.told entry.now)) }
         ensures phases { KnowsPhases (view_of seat.new) }
         ensures marks { KnowsMarks T.may_ask (view_of seat.new) }
     {

@@ -105,7 +105,8 @@ impl<T: Stands> Turnstile<T> {
         }
     }
 
-    /// Takes the other seat in: the calls left add up, and the longer history stays.
+    /// Takes the other seat in: the calls left add up, and the longer history stays, which begins with the shorter one.
+    /// It has no entry of a number that one of the two held, beyond what that one had seen.
     pub fn join(&self, into: &mut Seat<T>, other: Seat<T>)
         requires of { IsOf self.now into.old × IsOf self.now other }
         requires idle { ((view_of into.old).turn ≡ false) × ((view_of other).turn ≡ false) }
@@ -113,7 +114,8 @@ impl<T: Stands> Turnstile<T> {
         ensures joined { view_of into.new ≡ join_of (view_of into.old) (view_of other) }
         ensures one { StartsWith (view_of into.new).seen (view_of into.old).seen
             × StartsWith (view_of into.new).seen (view_of other).seen }
-        ensures own { OwnSeen (view_of into.old) (view_of into.new).seen × OwnSeen (view_of other) (view_of into.new).seen }
+        ensures own { OwnSeen (view_of into.old) (view_of into.new).seen
+            × OwnSeen (view_of other) (view_of into.new).seen }
         ensures phases { KnowsPhases (view_of into.new) }
         ensures marks { KnowsMarks T.may_ask (view_of into.new) }
     {
