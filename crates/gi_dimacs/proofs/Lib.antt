@@ -1,0 +1,9 @@
+pub mod Counting
+pub mod Splitting
+pub mod InLines
+pub mod Runs
+pub mod WholeTexts
+pub mod Standing
+pub mod Texts
+pub mod Relating
+pub mod Ends

@@ -1,0 +1,10 @@
+pub mod Lines
+pub mod Literals
+pub mod Cnf
+pub mod Adds
+pub mod Machine
+pub mod Reader
+pub mod Texts
+pub mod Relation
+pub mod Answers
+pub mod Laws

@@ -1,0 +1,151 @@
+-- The machine over bytes that the code is. The formats are in `Cnf`, and the laws say that this machine reads them.
+use Rattle.std.specs.Prelude.{ℕ, ◌+◌, min, nat_le, nat_lt, Bool, true, false, ◌==◌, ◌&&◌, ◌||◌, not, List, [], ◌∷◌, ◌++◌, length, Option, Some, None, Result, Ok, Err, if◌then◌else◌}
+use Rattle.std.specs.Str.{bytes_eq}
+use Rattle.std.specs.List.{fold}
+use Rattle.std.specs.Global.{Global}
+use Rattle.gi_text.specs.Words.{is_white}
+use Rattle.gi_dimacs.specs.declared.fault.CnfCode.{CnfCode}
+use Rattle.gi_dimacs.specs.declared.fault.CnfCode.TheVariants.{Header, Limit, Unterminated}
+use Rattle.gi_dimacs.specs.declared.fault.CnfFault.{CnfFault}
+use Rattle.gi_dimacs.specs.declared.cnf.Cnf.{Cnf}
+use Rattle.gi_dimacs.specs.declared.words.Taken.{Taken}
+use Rattle.gi_dimacs.specs.declared.machine.Head.{Head}
+use Rattle.gi_dimacs.specs.declared.machine.Head.TheVariants as heads
+use Rattle.gi_dimacs.specs.declared.machine.Phase.{Phase}
+use Rattle.gi_dimacs.specs.declared.machine.Phase.TheVariants.{Before, Body, Ended, Failed}
+use Rattle.gi_dimacs.specs.declared.machine.Spot.{Spot}
+use Rattle.gi_dimacs.specs.declared.machine.Spot.TheVariants.{Start, Comment, First, Later}
+use Rattle.gi_dimacs.specs.declared.machine.Machine.{Machine}
+use Rattle.gi_dimacs.specs.Cnf.{count_at, add_word, whole}
+
+abbrev pub begin : ℕ → Taken
+begin v = record { vars = v; clauses = []; begun = []; literals = 0 }
+
+abbrev pub start : Global → Machine
+start alloc = record { alloc = alloc; line = 1; phase = Before heads.Nothing; spot = Start; word = []; taken = begin 0 }
+
+abbrev pub vars_head : Option ℕ → Head
+vars_head (Some v) = heads.Vars (min v 1048577)
+vars_head None = heads.Bad
+
+abbrev pub whole_head : ℕ → Option ℕ → Head
+whole_head v (Some c) = heads.Whole v (nat_le c 4294967295)
+whole_head v None = heads.Bad
+
+abbrev pub head_step : Head → List ℕ → Head
+head_step heads.Nothing w = if bytes_eq w (112 ∷ []) then heads.P else heads.Bad
+head_step heads.P w = if bytes_eq w (99 ∷ 110 ∷ 102 ∷ []) then heads.Cnf else heads.Bad
+head_step heads.Cnf w = vars_head (count_at w)
+head_step (heads.Vars v) w = whole_head v (count_at w)
+head_step (heads.Whole v small) w = heads.Bad
+head_step heads.Bad w = heads.Bad
+
+abbrev pub head_counts : Head → Result ℕ CnfCode
+head_counts (heads.Whole v small) = if nat_lt 1048576 v || not small then Err Limit else Ok v
+head_counts heads.Nothing = Err Header
+head_counts heads.P = Err Header
+head_counts heads.Cnf = Err Header
+head_counts (heads.Vars v) = Err Header
+head_counts heads.Bad = Err Header
+
+abbrev pub end_phase : List ℕ → Phase
+end_phase begun = if length begun == 0 then Ended else Failed Unterminated
+
+abbrev pub is_first : Spot → Bool
+is_first Start = false
+is_first Comment = false
+is_first First = true
+is_first Later = false
+
+abbrev pub after_word : Machine → Phase → Taken → Machine
+after_word s phase taken = record s { phase = phase; spot = Later; word = []; taken = taken }
+
+abbrev pub after_add : Result Taken CnfCode → Machine → Machine
+after_add (Ok t) s = after_word s s.phase t
+after_add (Err c) s = after_word s (Failed c) s.taken
+
+unfoldable pub body_word : Machine → Machine
+body_word s = if is_first s.spot && bytes_eq s.word (37 ∷ []) then after_word s (end_phase s.taken.begun) s.taken else after_add (add_word s.taken s.word) s
+
+abbrev pub word_by_phase : Phase → Machine → Machine
+word_by_phase (Before h) s = after_word s (Before (head_step h s.word)) s.taken
+word_by_phase Body s = body_word s
+word_by_phase Ended s = s
+word_by_phase (Failed c) s = s
+
+unfoldable pub word_ends : Machine → Machine
+word_ends s = if length s.word == 0 then s else word_by_phase s.phase s
+
+abbrev pub new_line : Machine → Machine
+new_line s = record s { line = s.line + 1; spot = Start }
+
+abbrev pub after_head : Result ℕ CnfCode → Machine → Machine
+after_head (Ok v) s = record s { line = s.line + 1; spot = Start; phase = Body; taken = begin v }
+after_head (Err c) s = record s { phase = Failed c }
+
+abbrev pub line_by_phase : Phase → Machine → Machine
+line_by_phase (Before heads.Nothing) s = new_line s
+line_by_phase (Before heads.P) s = after_head (Err Header) s
+line_by_phase (Before heads.Cnf) s = after_head (Err Header) s
+line_by_phase (Before (heads.Vars v)) s = after_head (Err Header) s
+line_by_phase (Before (heads.Whole v small)) s = after_head (head_counts (heads.Whole v small)) s
+line_by_phase (Before heads.Bad) s = after_head (Err Header) s
+line_by_phase Body s = new_line s
+line_by_phase Ended s = s
+line_by_phase (Failed c) s = s
+
+unfoldable pub line_ends : Machine → Machine
+line_ends s = line_by_phase s.phase s
+
+abbrev pub go_inside : Spot → Spot
+go_inside Start = First
+go_inside Comment = Comment
+go_inside First = First
+go_inside Later = Later
+
+abbrev pub inside : Machine → Machine
+inside s = record s { spot = go_inside s.spot }
+
+abbrev pub is_over : Phase → Bool
+is_over (Before h) = false
+is_over Body = false
+is_over Ended = true
+is_over (Failed c) = true
+
+abbrev pub is_start : Spot → Bool
+is_start Start = true
+is_start Comment = false
+is_start First = false
+is_start Later = false
+
+abbrev pub in_comment : Spot → Bool
+in_comment Start = false
+in_comment Comment = true
+in_comment First = false
+in_comment Later = false
+
+abbrev pub byte_in_line : Machine → ℕ → Machine
+byte_in_line s b = if in_comment s.spot then s else if is_white b then inside (word_ends s)
+    else if is_start s.spot && b == 99 then record s { spot = Comment } else inside (record s { word = s.word ++ b ∷ [] })
+
+unfoldable pub take_byte : Machine → ℕ → Machine
+take_byte s b = if is_over s.phase then s else if b == 10 then line_ends (word_ends s) else byte_in_line s b
+
+-- the input has ended
+abbrev pub last_line : Machine → Machine
+last_line s = if is_start s.spot then s else line_ends (word_ends s)
+
+abbrev pub answer_of : Phase → ℕ → Taken → Result Cnf CnfFault
+answer_of (Before h) line t = Err (record { line = line; code = Header })
+answer_of Body line t = whole t line
+answer_of Ended line t = Ok (record { vars = t.vars; clauses = t.clauses })
+answer_of (Failed c) line t = Err (record { line = line; code = c })
+
+abbrev pub answer_now : Machine → Result Cnf CnfFault
+answer_now s = answer_of s.phase s.line s.taken
+
+unfoldable pub answer : Machine → Result Cnf CnfFault
+answer s = answer_now (last_line s)
+
+unfoldable pub run : Machine → List ℕ → Machine
+run s bytes = fold take_byte s bytes
