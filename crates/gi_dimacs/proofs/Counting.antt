@@ -2,7 +2,7 @@
 use Rattle.std.proofs.Common.{◌≡◌, ◌≢◌, ℕ, zero, suc, ℤ, pos, negsuc, List, [], ◌∷◌, get_or, Option, Some, None, option_map, refl, ap, sym, ◌∙◌, arith, Bool, true, false, IsTrue}
 use Rattle.std.proofs.lemmas.Bool.{ne_eqb}
 use Rattle.gi_text.specs.Numbers.{magnitude, negated, number_of, size_of}
-use Rattle.gi_dimacs.specs.Cnf.{from_zero, count_at}
+use Rattle.gi_dimacs.specs.Files.{from_zero, count_at}
 
 pub count_at-minus : (xs : List ℕ) → get_or xs 0 0 ≡ 45 → count_at xs ≡ None
 unfolding number_of

@@ -1,95 +1,108 @@
 -- What a reader answers at the end of its input, and the laws of its answers.
-use Rattle.std.proofs.Common.{◌≡◌, ℕ, ◌≤◌, ◌<◌, max, nat_lt, List, [], ◌∷◌, ◌++◌, length, Result, Ok, Err, Option, Some, None, Bool, true, false, ◌&&◌, ◌||◌, cond, ◌⊎◌, inl, inr, sym, ◌∙◌, refl, ap, arith, subst, pos, negsuc, ◌/◌}
+use Rattle.std.proofs.Common.{◌≡◌, ℕ, ◌≤◌, max, List, [], ◌∷◌, ◌++◌, length, Result, Ok, Err, ◌⊎◌, inl, inr, sym, ◌∙◌, refl, ap, arith, subst, ◌/◌}
 use Rattle.std.specs.List.{AllByRecursion}
-use Rattle.std.specs.Str.{bytes_eq}
-use Rattle.std.proofs.lemmas.Bool.{ltb-false}
-use Rattle.gi_dimacs.specs.declared.fault.CnfCode.{CnfCode}
-use Rattle.gi_dimacs.specs.declared.fault.CnfCode.TheVariants.{Header, Limit}
 use Rattle.gi_dimacs.specs.declared.fault.CnfFault.{CnfFault}
 use Rattle.gi_dimacs.specs.declared.cnf.Cnf.{Cnf}
-use Rattle.gi_dimacs.specs.declared.reader.CnfRead.{CnfRead}
-use Rattle.gi_dimacs.specs.declared.reader.CnfRead.TheVariants as answers
-use Rattle.gi_dimacs.specs.Cnf.{read_cnf, header_words, check_counts, count_at}
-use Rattle.gi_dimacs.specs.Relation.{IsCnf, line_words, greatest, greatest_of}
-use Rattle.gi_dimacs.specs.Answers.{Answers, Tells, IsCnfFault}
-use Rattle.gi_dimacs.specs.Texts.{IsGood, IsLiteralOf, cnf_text}
+use Rattle.gi_dimacs.specs.declared.cnf.Icnf.{Icnf}
+use Rattle.gi_dimacs.specs.declared.items.Item.{Item}
+use Rattle.gi_dimacs.specs.declared.items.Item.TheVariants.{Clause, Ask}
+use Rattle.gi_dimacs.specs.declared.content.Format.{Format}
+use Rattle.gi_dimacs.specs.declared.content.Format.TheVariants as formats
+use Rattle.gi_dimacs.specs.declared.content.Content.{Content}
+use Rattle.gi_dimacs.specs.declared.content.Content.TheVariants.{Clauses, Items}
+use Rattle.gi_dimacs.specs.Content.{File, format_of, items_of, greatest, greatest_of}
+use Rattle.gi_dimacs.specs.Files.{read_file, header_words}
+use Rattle.gi_dimacs.specs.Relation.{IsFile, IsCnf, IsIcnf, IsProper, line_words}
+use Rattle.gi_dimacs.specs.Answers.{HasNone, IsFault}
+use Rattle.gi_dimacs.specs.Texts.{IsGoodFile, IsGood, IsGoodIcnf, IsItemOf, IsLiteralOf, HasVars, cnf_file, icnf_file, cnf_text, icnf_text}
 use Rattle.gi_dimacs.specs.Laws.{OneAnswer, HasValue, HasFault, FaultsStand, GoodValues}
-use Rattle.gi_dimacs.proofs.Relating.{is_cnf, cnf_is_read}
+use Rattle.gi_dimacs.proofs.Relating.{is_file}
+use Rattle.gi_dimacs.proofs.Accepting.{file_is_read, header_small, icnf_declares}
 use Rattle.gi_dimacs.proofs.Standing.{fault_stands}
-use Rattle.gi_dimacs.proofs.Texts.{text_is_read}
+use Rattle.gi_dimacs.proofs.Texts as texts
 
-no_both : (bytes : List ℕ) (f : CnfFault) (v : Cnf) → read_cnf bytes ≡ Err f → IsCnf v bytes → ⊥
-no_both bytes f v e is = let r = cnf_is_read bytes v is in cc
+-- a value of a format is what is read
+reads : (g : Format) (bytes : List ℕ) (v : File) → format_of v.content ≡ g → IsFile v bytes → read_file g bytes ≡ Ok v
+reads g bytes v of_format is = ap (λ h. read_file h bytes) (sym of_format) ∙ file_is_read v bytes is
+
+has_none : (g : Format) (bytes : List ℕ) (f : CnfFault) → read_file g bytes ≡ Err f → HasNone g bytes
+has_none g bytes f e = λ v of_format is. no_both (reads g bytes v of_format is) where
+  no_both : {v : File} → read_file g bytes ≡ Ok v → ⊥
+  no_both r = cc
 
 -- a fault leaves no value, and stands
-pub is_fault : (bytes : List ℕ) (f : CnfFault) → read_cnf bytes ≡ Err f → IsCnfFault f bytes
-is_fault bytes f e = record {
+pub is_fault : (g : Format) (bytes : List ℕ) (f : CnfFault) → read_file g bytes ≡ Err f → IsFault g f bytes
+is_fault g bytes f e = record {
   first = e;
-  none = λ v is. no_both bytes f v e is;
-  stands = λ within more v is. no_both _ f v (fault_stands bytes more f e within) is;
+  none = has_none g bytes f e;
+  stands = λ within more. has_none g _ f (fault_stands g bytes more f e within);
 }
 
-pub tells_answers : (answer : CnfRead) (bytes : List ℕ) → Tells answer (read_cnf bytes) → Answers answer bytes
-tells_answers (answers.Cnf v) bytes e = is_cnf bytes v e
-tells_answers (answers.Fault f) bytes e = is_fault bytes f e
-tells_answers answers.NoMemory bytes e = tt
+same_value : (g : Format) (bytes : List ℕ) (v w : File) → read_file g bytes ≡ Ok v → read_file g bytes ≡ Ok w → w ≡ v
+same_value g bytes v w a b = cc
 
-same_value : (bytes : List ℕ) (v w : Cnf) → IsCnf v bytes → IsCnf w bytes → w ≡ v
-same_value bytes v w a b = let r = cnf_is_read bytes v a in let s = cnf_is_read bytes w b in cc
-
-same_fault : (bytes : List ℕ) (f g : CnfFault) → read_cnf bytes ≡ Err f → IsCnfFault g bytes → g ≡ f
-same_fault bytes f g e b = let s = b.first in cc
+same_fault : (g : Format) (bytes : List ℕ) (f h : CnfFault) → read_file g bytes ≡ Err f → read_file g bytes ≡ Err h → h ≡ f
+same_fault g bytes f h a b = cc
 
 pub one_answer : OneAnswer
-one_answer bytes = by_result (read_cnf bytes) refl where
-  by_result : (r : Result Cnf CnfFault) → read_cnf bytes ≡ r → HasValue bytes ⊎ HasFault bytes
-  by_result (Ok v) e = let is = is_cnf bytes v e in inl (record { value = v; stands = is; only = λ w b. same_value bytes v w is b; no_fault = λ f b. b.none v is })
-  by_result (Err f) e = inr (record { fault = f; stands = is_fault bytes f e; only = λ g b. same_fault bytes f g e b; no_value = λ v b. no_both bytes f v e b })
+one_answer g bytes = by_result (read_file g bytes) refl where
+  by_result : (r : Result File CnfFault) → read_file g bytes ≡ r → HasValue g bytes ⊎ HasFault g bytes
+  by_result (Ok v) e =
+      let r = is_file g bytes v e in
+      inl (record { value = v; of_format = r.of_format; stands = r.stands; only = λ w of_format is. same_value g bytes v w e (reads g bytes w of_format is); no_fault = λ f b. b.none v r.of_format r.stands })
+  by_result (Err f) e = inr (record { fault = f; stands = is_fault g bytes f e; only = λ h b. same_fault g bytes f h e b.first; no_value = has_none g bytes f e })
 
 pub faults_stand : FaultsStand
-faults_stand bytes more f is within = is_fault _ f (fault_stands bytes more f is.first within)
+faults_stand g bytes more f is within = is_fault g _ f (fault_stands g bytes more f is.first within)
 
--- a header's variables are within the limit
-header_small : (ws : List (List ℕ)) (d : ℕ) → header_words ws ≡ Ok d → d ≤ 1048576
-header_small [] d e = absurd cc
-header_small (p ∷ []) d e = absurd cc
-header_small (p ∷ cnf ∷ []) d e = absurd cc
-header_small (p ∷ cnf ∷ v ∷ []) d e = absurd cc
-header_small (p ∷ cnf ∷ v ∷ c ∷ x ∷ ws) d e = absurd cc
-header_small (p ∷ cnf ∷ v ∷ c ∷ []) d e = by_words (bytes_eq p (112 ∷ []) && bytes_eq cnf (99 ∷ 110 ∷ 102 ∷ [])) (count_at v) (count_at c) e where
-  by_size : (n m : ℕ) (a b : Bool) → nat_lt 1048576 n ≡ a → cond (a || b) (Err Limit) (Ok n) ≡ Ok d → d ≤ 1048576
-  by_size n m true b is e = absurd cc
-  by_size n m false true is e = absurd cc
-  by_size n m false false is e = let small = ltb-false 1048576 n is in let same : n ≡ d = cc in omega arith
+-- what has bytes is good
+lits_within : (vars : ℕ) (c : List ℕ) → AllByRecursion (λ l. 1 ≤ l / 2) c → greatest c ≤ vars → AllByRecursion (IsLiteralOf vars) c
+lits_within vars [] proper high = tt
+lits_within vars (l ∷ c) proper high = ((proper.0, omega arith), lits_within vars c proper.1 (omega arith))
 
-  by_words : (b : Bool) (v c : Option ℕ) → cond b (check_counts v c) (Err Header) ≡ Ok d → d ≤ 1048576
-  by_words false v c e = absurd cc
-  by_words true None c e = absurd cc
-  by_words true (Some n) None e = absurd cc
-  by_words true (Some n) (Some m) e = by_size n m (nat_lt 1048576 n) (nat_lt 4294967295 m) refl e
+items_within : (vars : ℕ) (is : List Item) → AllByRecursion IsProper is → greatest_of is ≤ vars → AllByRecursion (IsItemOf vars) is
+items_within vars [] proper high = tt
+items_within vars (Clause c ∷ is) proper high = (lits_within vars c proper.0 (omega arith), items_within vars is proper.1 (omega arith))
+items_within vars (Ask c ∷ is) proper high = ((lits_within vars c proper.0.0 (omega arith), proper.0.1), items_within vars is proper.1 (omega arith))
 
-literals_within : (vars : ℕ) (c : List ℕ) → AllByRecursion (λ l. 1 ≤ l / 2) c → greatest c ≤ vars → AllByRecursion (IsLiteralOf vars) c
-literals_within vars [] proper high = tt
-literals_within vars (l ∷ c) proper high = ((proper.0, omega arith), literals_within vars c proper.1 (omega arith))
+has_vars : (k : Content) (ws : List (List ℕ)) (d n : ℕ) → header_words (format_of k) ws ≡ Ok d → n ≡ max d (greatest_of (items_of k)) → HasVars n k
+has_vars (Clauses cs) ws d n header vars = tt
+has_vars (Items is) ws d n header vars = let none = icnf_declares ws d header in omega arith
 
-clauses_within : (vars : ℕ) (cs : List (List ℕ)) → AllByRecursion (AllByRecursion (λ l. 1 ≤ l / 2)) cs → greatest_of cs ≤ vars → AllByRecursion (AllByRecursion (IsLiteralOf vars)) cs
-clauses_within vars [] proper high = tt
-clauses_within vars (c ∷ cs) proper high = (literals_within vars c proper.0 (omega arith), clauses_within vars cs proper.1 (omega arith))
-
-is_good : (v : Cnf) (bytes : List ℕ) → IsCnf v bytes → IsGood v
-is_good v bytes is = let small = header_small (line_words is.head) is.declared is.header in record {
+is_good : (v : File) (bytes : List ℕ) → IsFile v bytes → IsGoodFile v
+is_good v bytes is = let small = header_small (format_of v.content) (line_words is.head) is.declared is.header in record {
   vars = omega (arith, is.vars, is.small);
-  literals = clauses_within v.vars v.clauses is.proper (omega (arith, is.vars));
+  items = items_within v.vars (items_of v.content) is.proper (omega (arith, is.vars));
+  used = has_vars v.content (line_words is.head) is.declared v.vars is.header is.vars;
   clauses = is.clauses;
-  total = is.literals;
+  literals = is.literals;
 }
 
-pub text_is_cnf : (v : Cnf) → IsGood v → IsCnf v (cnf_text v)
-text_is_cnf v good = is_cnf (cnf_text v) v (text_is_read v good)
+pub good_values : GoodValues
+good_values = record { have_text = texts.text_is_cnf; only = λ v bytes is. is_good (cnf_file v) bytes is; have_icnf_text = texts.text_is_icnf; only_icnf = λ v bytes is. is_good (icnf_file v) bytes is }
 
 -- what is read from a text has that text
-pub text_again : (v w : Cnf) → IsGood v → IsCnf w (cnf_text v) → cnf_text w ≡ cnf_text v
-text_again v w good is = ap cnf_text (same_value (cnf_text v) v w (text_is_cnf v good) is)
+pub cnf_again : (v w : Cnf) → IsGood v → IsCnf w (cnf_text v) → cnf_text w ≡ cnf_text v
+cnf_again v w good is =
+    let same : cnf_file w ≡ cnf_file v = same_value formats.Cnf (cnf_text v) (cnf_file v) (cnf_file w) (file_is_read (cnf_file v) (cnf_text v) (texts.text_is_cnf v good)) (file_is_read (cnf_file w) (cnf_text v) is) in
+    ap cnf_text (same_cnf v w same) where
+      same_cnf : (v w : Cnf) → cnf_file w ≡ cnf_file v → w ≡ v
+      same_cnf v w e = let vars : w.vars ≡ v.vars = ap (λ (f : File). f.vars) e in let clauses : w.clauses ≡ v.clauses = clauses_same w.clauses v.clauses (ap (λ (f : File). f.content) e) in rw (vars, clauses) refl where
+        clauses_same : (cs ds : List (List ℕ)) → Clauses cs ≡ Clauses ds → cs ≡ ds
+        clauses_same cs ds e = cc
 
-pub good_values : GoodValues
-good_values = record { have_text = text_is_cnf; only = is_good }
+pub icnf_again : (v w : Icnf) → IsGoodIcnf v → IsIcnf w (icnf_text v) → icnf_text w ≡ icnf_text v
+icnf_again v w good is =
+    let same : icnf_file w ≡ icnf_file v = same_value formats.Icnf (icnf_text v) (icnf_file v) (icnf_file w) (file_is_read (icnf_file v) (icnf_text v) (texts.text_is_icnf v good)) (file_is_read (icnf_file w) (icnf_text v) is) in
+    ap icnf_text (same_icnf v w same) where
+      same_icnf : (v w : Icnf) → icnf_file w ≡ icnf_file v → w ≡ v
+      same_icnf v w e = let vars : w.vars ≡ v.vars = ap (λ (f : File). f.vars) e in let items : w.items ≡ v.items = items_same w.items v.items (ap (λ (f : File). f.content) e) in rw (vars, items) refl where
+        items_same : (cs ds : List Item) → Items cs ≡ Items ds → cs ≡ ds
+        items_same cs ds e = cc
+
+-- what a reader was told
+pub told_cnf : (bytes : List ℕ) (vars : ℕ) (content : Content) (clauses : List (List ℕ)) → content ≡ Clauses clauses → read_file formats.Cnf bytes ≡ Ok (record { vars = vars; content = content }) → IsCnf (record { vars = vars; clauses = clauses }) bytes
+told_cnf bytes vars content clauses is e = (is_file formats.Cnf bytes (cnf_file (record { vars = vars; clauses = clauses })) (e ∙ ap (λ (k : Content). Ok (record { vars = vars; content = k })) is)).stands
+
+pub told_icnf : (bytes : List ℕ) (vars : ℕ) (content : Content) (items : List Item) → content ≡ Items items → read_file formats.Icnf bytes ≡ Ok (record { vars = vars; content = content }) → IsIcnf (record { vars = vars; items = items }) bytes
+told_icnf bytes vars content items is e = (is_file formats.Icnf bytes (icnf_file (record { vars = vars; items = items })) (e ∙ ap (λ (k : Content). Ok (record { vars = vars; content = k })) is)).stands

@@ -1,5 +1,5 @@
 -- What the machine does in a line.
-use Rattle.std.proofs.Common.{◌≡◌, ℕ, suc, ◌+◌, List, [], ◌∷◌, ◌++◌, length, Bool, true, false, ◌&&◌, ◌||◌, not, cond, ◌⊎◌, inl, inr, Option, Some, None, Result, Ok, Err, refl, ap, sym, ◌∙◌, append_assoc, arith, subst}
+use Rattle.std.proofs.Common.{◌≡◌, ℕ, suc, ◌+◌, List, [], ◌∷◌, ◌++◌, length, Bool, true, false, ◌&&◌, ◌||◌, not, cond, ◌⊎◌, inl, inr, Option, Some, None, Result, Ok, Err, ℤ, pos, negsuc, zero, nat_le, refl, ap, sym, ◌∙◌, append_assoc, arith, subst}
 use Rattle.std.specs.Prelude.{◌==◌}
 use Rattle.std.specs.List.{fold}
 use Rattle.std.specs.Str.{bytes_eq}
@@ -9,14 +9,16 @@ use Rattle.std.proofs.lemmas.Bool.Decides.{eqb_tells}
 use Rattle.gi_text.specs.Words.{is_white, word_of, words_from, words_of}
 use Rattle.gi_dimacs.specs.Lines.{is_plain}
 use Rattle.gi_dimacs.specs.declared.fault.CnfCode.{CnfCode}
+use Rattle.gi_dimacs.specs.declared.fault.CnfCode.TheVariants.{Limit, Word}
 use Rattle.gi_dimacs.specs.declared.words.Taken.{Taken}
 use Rattle.gi_dimacs.specs.declared.machine.Phase.{Phase}
-use Rattle.gi_dimacs.specs.declared.machine.Phase.TheVariants.{Before, Body, Ended, Failed}
+use Rattle.gi_dimacs.specs.declared.machine.Phase.TheVariants.{Before, Body, Ask, Asked, Ended, Failed}
 use Rattle.gi_dimacs.specs.declared.machine.Spot.{Spot}
 use Rattle.gi_dimacs.specs.declared.machine.Spot.TheVariants.{Start, Comment, First, Later}
 use Rattle.gi_dimacs.specs.declared.machine.Machine.{Machine}
-use Rattle.gi_dimacs.specs.Cnf.{is_comment, add_word}
-use Rattle.gi_dimacs.specs.Machine.{head_step, end_phase, is_first, after_word, after_add, body_word, word_by_phase, word_ends, line_by_phase, line_ends, go_inside, inside, is_over, is_start, in_comment, byte_in_line, take_byte, run}
+use Rattle.gi_dimacs.specs.Content.{format_of}
+use Rattle.gi_dimacs.specs.Files.{is_comment, is_end, is_ask, asked, with_assumption, number_in, add_word}
+use Rattle.gi_dimacs.specs.Machine.{head_step, end_phase, ask_phase, is_first, after_word, after_add, after_ask, body_word, word_by_phase, word_ends, line_by_phase, line_ends, go_inside, inside, is_over, is_start, in_comment, byte_in_line, take_byte, run}
 use Rattle.gi_dimacs.proofs.Splitting.{IsPlain}
 
 abbrev pub at : Global → ℕ → Phase → Spot → List ℕ → Taken → Machine
@@ -52,18 +54,36 @@ pub record Left (a : Global) (k : ℕ) (s : Machine) : Type 0 where
 
 by_words : (a : Global) (k : ℕ) (f : Bool) (w : List ℕ) (t : Taken) → Left a k (body_word (at a k Body (inner f) w t))
 unfolding body_word
-by_words a k f w t = by_test (is_first (inner f) && bytes_eq w (37 ∷ [])) (add_word t w) where
+by_words a k f w t = by_end (is_first (inner f) && is_end w) (is_first (inner f) && is_ask (format_of t.content) w) (add_word t w) where
   added : (r : Result Taken CnfCode) → Left a k (after_add r (at a k Body (inner f) w t))
   added (Ok u) = record { phase = Body; taken = u; is = refl }
   added (Err c) = record { phase = Failed c; taken = t; is = refl }
 
-  by_test : (b : Bool) (r : Result Taken CnfCode) → Left a k (cond b (after_word (at a k Body (inner f) w t) (end_phase t.begun) t) (after_add r (at a k Body (inner f) w t)))
-  by_test true r = record { phase = end_phase t.begun; taken = t; is = refl }
-  by_test false r = added r
+  by_ask : (b : Bool) (r : Result Taken CnfCode) → Left a k (cond b (after_word (at a k Body (inner f) w t) (ask_phase t.begun) t) (after_add r (at a k Body (inner f) w t)))
+  by_ask true r = record { phase = ask_phase t.begun; taken = t; is = refl }
+  by_ask false r = added r
+
+  by_end : (b d : Bool) (r : Result Taken CnfCode) → Left a k (cond b (after_word (at a k Body (inner f) w t) (end_phase t.begun) t) (cond d (after_word (at a k Body (inner f) w t) (ask_phase t.begun) t) (after_add r (at a k Body (inner f) w t))))
+  by_end true d r = record { phase = end_phase t.begun; taken = t; is = refl }
+  by_end false d r = by_ask d r
+
+by_number : (a : Global) (k : ℕ) (f : Bool) (w : List ℕ) (t : Taken) (r : Result ℤ CnfCode) → Left a k (after_ask r (at a k Ask (inner f) w t))
+by_number a k f w t (Err c) = record { phase = Failed c; taken = t; is = refl }
+by_number a k f w t (Ok (pos zero)) = record { phase = Asked; taken = asked t; is = refl }
+by_number a k f w t (Ok (pos (suc n))) = by_test (nat_le 1048576 (length t.begun)) where
+  by_test : (b : Bool) → Left a k (cond b (after_word (at a k Ask (inner f) w t) (Failed Limit) t) (after_word (at a k Ask (inner f) w t) Ask (with_assumption t (pos (suc n)))))
+  by_test true = record { phase = Failed Limit; taken = t; is = refl }
+  by_test false = record { phase = Ask; taken = with_assumption t (pos (suc n)); is = refl }
+by_number a k f w t (Ok (negsuc n)) = by_test (nat_le 1048576 (length t.begun)) where
+  by_test : (b : Bool) → Left a k (cond b (after_word (at a k Ask (inner f) w t) (Failed Limit) t) (after_word (at a k Ask (inner f) w t) Ask (with_assumption t (negsuc n))))
+  by_test true = record { phase = Failed Limit; taken = t; is = refl }
+  by_test false = record { phase = Ask; taken = with_assumption t (negsuc n); is = refl }
 
 left : (a : Global) (k : ℕ) (p : Phase) (f : Bool) (w : List ℕ) (t : Taken) → is_over p ≡ false → Left a k (word_by_phase p (at a k p (inner f) w t))
-left a k (Before h) f w t e = record { phase = Before (head_step h w); taken = t; is = refl }
+left a k (Before h) f w t e = record { phase = Before (head_step (format_of t.content) h w); taken = t; is = refl }
 left a k Body f w t e = by_words a k f w t
+left a k Ask f w t e = by_number a k f w t (number_in w)
+left a k Asked f w t e = record { phase = Failed Word; taken = t; is = refl }
 left a k Ended f w t e = absurd cc
 left a k (Failed c) f w t e = absurd cc
 

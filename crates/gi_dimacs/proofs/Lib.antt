@@ -4,6 +4,7 @@ pub mod InLines
 pub mod Runs
 pub mod WholeTexts
 pub mod Standing
-pub mod Texts
 pub mod Relating
+pub mod Accepting
+pub mod Texts
 pub mod Ends

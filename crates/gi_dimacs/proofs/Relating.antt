@@ -1,26 +1,31 @@
 -- What is read stands in the relation, and what stands in it is read.
 use Rattle.std.proofs.Common.{◌≡◌, ◌≢◌, ℕ, zero, suc, ◌+◌, ◌*◌, ◌-◌, ◌/◌, ◌%◌, ◌<◌, ◌≤◌, max, nat_lt, nat_le, List, [], ◌∷◌, ◌++◌, length, Bool, true, false, ◌&&◌, ◌||◌, cond, ◌⊎◌, inl, inr, Option, Some, None, option_map, Result, Ok, Err, refl, ap, sym, ◌∙◌, append_assoc, length-append, add-zero, arith, ℤ, pos, negsuc, subst, map}
 use Rattle.std.specs.Prelude.{◌==◌}
-use Rattle.std.specs.List.{flat_map, AllByRecursion}
-use Rattle.std.specs.Str.{bytes_eq}
+use Rattle.std.specs.List.{AllByRecursion}
+use Rattle.std.specs.Str.{bytes_eq, all_ascii_digits}
+use Rattle.std.specs.Char.{is_ascii_digit}
 use Rattle.std.proofs.lemmas.Bool.Decides.{eqb_tells, nat_tests}
 use Rattle.std.proofs.lemmas.Bool.{ltb-false, le-ltb, ne_eqb}
 use Rattle.std.proofs.lemmas.List.{append-nil}
+use Rattle.gi_lit.specs.Literals.{literal_of}
 use Rattle.gi_text.specs.Words.{words_of}
-use Rattle.gi_dimacs.specs.Lines.{lines_of}
-use Rattle.std.specs.Str.{all_ascii_digits}
-use Rattle.std.specs.Char.{is_ascii_digit}
 use Rattle.gi_text.specs.Numbers.{number_of, size_of, magnitude, negated, read_on}
 use Rattle.gi_dimacs.specs.declared.fault.CnfCode.{CnfCode}
-use Rattle.gi_dimacs.specs.declared.fault.CnfCode.TheVariants.{Limit, Word, Number, Unterminated}
+use Rattle.gi_dimacs.specs.declared.fault.CnfCode.TheVariants.{Limit, Word, Unterminated}
+use Rattle.gi_dimacs.specs.declared.fault.CnfCode.TheVariants as codes
 use Rattle.gi_dimacs.specs.declared.fault.CnfFault.{CnfFault}
+use Rattle.gi_dimacs.specs.declared.items.Item.{Item}
+use Rattle.gi_dimacs.specs.declared.items.Item.TheVariants.{Clause, Ask}
+use Rattle.gi_dimacs.specs.declared.content.Format.{Format}
+use Rattle.gi_dimacs.specs.declared.content.Format.TheVariants as formats
+use Rattle.gi_dimacs.specs.declared.content.Content.{Content}
+use Rattle.gi_dimacs.specs.declared.content.Content.TheVariants.{Clauses, Items}
 use Rattle.gi_dimacs.specs.declared.words.Taken.{Taken}
-use Rattle.gi_dimacs.specs.declared.cnf.Cnf.{Cnf}
-use Rattle.gi_lit.specs.Literals.{literal_of}
-use Rattle.gi_dimacs.specs.Cnf.{closed, with_literal, add_number, add_if_number, begins_number, add_word, add_words, then_words, is_comment, end_word, Move, Goes, Ends, Stops, moves, body_words, body_line, whole, after_move, read_body, begin_body, head_words, header_words, read_lines, read_cnf}
-use Rattle.gi_dimacs.specs.Texts.{literals_in}
-use Rattle.gi_dimacs.specs.Machine.{begin}
-use Rattle.gi_dimacs.specs.Relation.{line_words, begins_end, to_number, numbers_of, AreNumbers, greatest, greatest_of, IsCnf}
+use Rattle.gi_dimacs.specs.Lines.{lines_of}
+use Rattle.gi_dimacs.specs.Content.{File, nothing, format_of, with_item, items_of, clauses_in, literals_in, greatest, greatest_of}
+use Rattle.gi_dimacs.specs.Files.{begin, closed, asked, with_literal, with_assumption, add_number, within_variables, begins_number, number_in, then_number, add_word, add_words, then_words, ask_ends, ask_number, ask_words, is_comment, is_end, is_ask, Move, Goes, Ends, Stops, moves, ask_line, body_words, body_line, whole, after_move, read_body, begin_body, head_words, header_words, read_lines, read_file}
+use Rattle.gi_dimacs.specs.Relation.{line_words, begins_end, begins_ask, Token, Number, Asks, to_number, list_tokens, AreNumbers, SaysAsk, LineSays, LinesSay, tokens_of, IsProper, IsFile}
+use Rattle.gi_dimacs.proofs.WholeTexts.{format_of-nothing}
 
 -- codes and numbers
 to_number-literal_of : (z : ℤ) → z ≢ pos 0 → to_number (literal_of z) ≡ z
@@ -36,80 +41,159 @@ half_code : (z : ℤ) → literal_of z / 2 ≡ size_of z
 half_code (pos n) = omega arith
 half_code (negsuc n) = omega arith
 
--- more words are more numbers
-numbers-append : (ws vs : List (List ℕ)) (ys zs : List ℤ) → AreNumbers ws ys → AreNumbers vs zs → AreNumbers (ws ++ vs) (ys ++ zs)
-numbers-append [] vs [] zs a b = b
-numbers-append [] vs (y ∷ ys) zs a b = absurd a
-numbers-append (w ∷ ws) vs [] zs a b = absurd a
-numbers-append (w ∷ ws) vs (y ∷ ys) zs a b = (a.0, numbers-append ws vs ys zs a.1 b)
-
-map-append : (xs ys : List ℕ) → map to_number (xs ++ ys) ≡ map to_number xs ++ map to_number ys
-map-append [] ys = refl
-map-append (x ∷ xs) ys = ap (λ zs. to_number x ∷ zs) (map-append xs ys)
-
-numbers_of-push : (cs : List (List ℕ)) (c : List ℕ) → numbers_of (cs ++ c ∷ []) ≡ (numbers_of cs ++ map to_number c) ++ pos 0 ∷ []
-numbers_of-push [] c = refl
-numbers_of-push (d ∷ cs) c = ap (λ zs. map to_number d ++ pos 0 ∷ zs) (numbers_of-push cs c)
-    ∙ sym (ap (λ zs. zs ++ pos 0 ∷ []) (append_assoc (map to_number d) (pos 0 ∷ numbers_of cs) (map to_number c)) ∙ append_assoc (map to_number d) (pos 0 ∷ (numbers_of cs ++ map to_number c)) (pos 0 ∷ []))
-
-greatest-push : (c : List ℕ) (l : ℕ) → greatest (c ++ l ∷ []) ≡ max (greatest c) (l / 2)
-greatest-push [] l = omega arith
-greatest-push (x ∷ c) l = omega (arith, greatest-push c l)
-
-greatest_of-push : (cs : List (List ℕ)) (c : List ℕ) → greatest_of (cs ++ c ∷ []) ≡ max (greatest_of cs) (greatest c)
-greatest_of-push [] c = omega arith
-greatest_of-push (d ∷ cs) c = omega (arith, greatest_of-push cs c)
-
-literals-push : (cs : List (List ℕ)) (c : List ℕ) → literals_in (cs ++ c ∷ []) ≡ literals_in cs + length c
-literals-push [] c = omega arith
-literals-push (d ∷ cs) c = omega (arith, literals-push cs c)
-
 abbrev pub Proper : ℕ → Type 0
 Proper l = 1 ≤ l / 2
-
-all_push : {A : Type 0} (P : A → Type 0) (xs : List A) (x : A) → AllByRecursion P xs → P x → AllByRecursion P (xs ++ x ∷ [])
-all_push P [] x h p = (p, tt)
-all_push P (y ∷ xs) x h p = (h.0, all_push P xs x h.1 p)
 
 proper_code : (z : ℤ) → z ≢ pos 0 → Proper (literal_of z)
 proper_code (pos zero) some = absurd (some refl)
 proper_code (pos (suc n)) some = omega arith
 proper_code (negsuc n) some = omega arith
 
--- what words so far gave
-pub record Told (declared : ℕ) (done : List (List ℕ)) (t : Taken) : Type 0 where
-  pub numbers : AreNumbers done (numbers_of t.clauses ++ map to_number t.begun)
-  pub proper : AllByRecursion (AllByRecursion Proper) t.clauses
+-- literals without a 0
+abbrev numbers_of : List ℕ → List Token
+numbers_of [] = []
+numbers_of (l ∷ ls) = Number (to_number l) ∷ numbers_of ls
+
+list_tokens-is : (ls : List ℕ) → list_tokens ls ≡ numbers_of ls ++ Number (pos 0) ∷ []
+list_tokens-is [] = refl
+list_tokens-is (l ∷ ls) = ap (λ ts. Number (to_number l) ∷ ts) (list_tokens-is ls)
+
+numbers_of-push : (ls : List ℕ) (l : ℕ) → numbers_of (ls ++ l ∷ []) ≡ numbers_of ls ++ Number (to_number l) ∷ []
+numbers_of-push [] l = refl
+numbers_of-push (x ∷ ls) l = ap (λ ts. Number (to_number x) ∷ ts) (numbers_of-push ls l)
+
+-- one more item
+abbrev item_tokens : Item → List Token
+item_tokens (Clause c) = list_tokens c
+item_tokens (Ask lits) = Asks lits ∷ []
+
+tokens_of-push : (is : List Item) (i : Item) → tokens_of (is ++ i ∷ []) ≡ tokens_of is ++ item_tokens i
+tokens_of-push [] (Clause c) = append-nil (list_tokens c)
+tokens_of-push [] (Ask lits) = refl
+tokens_of-push (Clause d ∷ is) i = ap (λ ts. list_tokens d ++ ts) (tokens_of-push is i) ∙ sym (append_assoc (list_tokens d) (tokens_of is) (item_tokens i))
+tokens_of-push (Ask lits ∷ is) i = ap (λ ts. Asks lits ∷ ts) (tokens_of-push is i)
+
+greatest-push : (c : List ℕ) (l : ℕ) → greatest (c ++ l ∷ []) ≡ max (greatest c) (l / 2)
+greatest-push [] l = omega arith
+greatest-push (x ∷ c) l = omega (arith, greatest-push c l)
+
+abbrev lits_of : Item → List ℕ
+lits_of (Clause c) = c
+lits_of (Ask lits) = lits
+
+greatest_of-push : (is : List Item) (i : Item) → greatest_of (is ++ i ∷ []) ≡ max (greatest_of is) (greatest (lits_of i))
+greatest_of-push [] (Clause c) = omega arith
+greatest_of-push [] (Ask lits) = omega arith
+greatest_of-push (Clause d ∷ is) i = omega (arith, greatest_of-push is i)
+greatest_of-push (Ask d ∷ is) i = omega (arith, greatest_of-push is i)
+
+clauses_in-push : (is : List Item) (c : List ℕ) → clauses_in (is ++ Clause c ∷ []) ≡ clauses_in is + 1
+clauses_in-push [] c = refl
+clauses_in-push (Clause d ∷ is) c = omega (arith, clauses_in-push is c)
+clauses_in-push (Ask d ∷ is) c = clauses_in-push is c
+
+clauses_in-ask : (is : List Item) (c : List ℕ) → clauses_in (is ++ Ask c ∷ []) ≡ clauses_in is
+clauses_in-ask [] c = refl
+clauses_in-ask (Clause d ∷ is) c = omega (arith, clauses_in-ask is c)
+clauses_in-ask (Ask d ∷ is) c = clauses_in-ask is c
+
+literals_in-push : (is : List Item) (c : List ℕ) → literals_in (is ++ Clause c ∷ []) ≡ literals_in is + length c
+literals_in-push [] c = omega arith
+literals_in-push (Clause d ∷ is) c = omega (arith, literals_in-push is c)
+literals_in-push (Ask d ∷ is) c = literals_in-push is c
+
+literals_in-ask : (is : List Item) (c : List ℕ) → literals_in (is ++ Ask c ∷ []) ≡ literals_in is
+literals_in-ask [] c = refl
+literals_in-ask (Clause d ∷ is) c = omega (arith, literals_in-ask is c)
+literals_in-ask (Ask d ∷ is) c = literals_in-ask is c
+
+all_push : {A : Type 0} (P : A → Type 0) (xs : List A) (x : A) → AllByRecursion P xs → P x → AllByRecursion P (xs ++ x ∷ [])
+all_push P [] x h p = (p, tt)
+all_push P (y ∷ xs) x h p = (h.0, all_push P xs x h.1 p)
+
+-- a content with one more item
+map-push : (cs : List (List ℕ)) (c : List ℕ) → map Clause (cs ++ c ∷ []) ≡ map Clause cs ++ Clause c ∷ []
+map-push [] c = refl
+map-push (d ∷ cs) c = ap (λ is. Clause d ∷ is) (map-push cs c)
+
+items-clause : (k : Content) (c : List ℕ) → items_of (with_item k (Clause c)) ≡ items_of k ++ Clause c ∷ []
+items-clause (Clauses cs) c = map-push cs c
+items-clause (Items is) c = refl
+
+items-ask : (k : Content) (c : List ℕ) → format_of k ≡ formats.Icnf → items_of (with_item k (Ask c)) ≡ items_of k ++ Ask c ∷ []
+items-ask (Clauses cs) c e = absurd cc
+items-ask (Items is) c e = refl
+
+pub format-item : (k : Content) (i : Item) → format_of (with_item k i) ≡ format_of k
+format-item (Clauses cs) (Clause c) = refl
+format-item (Clauses cs) (Ask c) = refl
+format-item (Items is) i = refl
+
+-- what tokens so far gave
+pub record Told (format : Format) (declared : ℕ) (done : List Token) (t : Taken) : Type 0 where
+  pub of_format : format_of t.content ≡ format
+  pub tokens : done ≡ tokens_of (items_of t.content) ++ numbers_of t.begun
+  pub proper : AllByRecursion IsProper (items_of t.content)
   pub proper_begun : AllByRecursion Proper t.begun
-  pub vars : t.vars ≡ max declared (max (greatest_of t.clauses) (greatest t.begun))
-  pub small : max (greatest_of t.clauses) (greatest t.begun) ≤ 1048576
-  pub clauses : length t.clauses ≤ 4194304
-  pub count : t.literals ≡ literals_in t.clauses + length t.begun
+  pub vars : t.vars ≡ max declared (max (greatest_of (items_of t.content)) (greatest t.begun))
+  pub small : max (greatest_of (items_of t.content)) (greatest t.begun) ≤ 1048576
+  pub ended : t.ended ≡ clauses_in (items_of t.content)
+  pub clauses : t.ended ≤ 4194304
+  pub count : t.literals ≡ literals_in (items_of t.content) + length t.begun
   pub literals : t.literals ≤ 67108864
 
-told_zero : (d : ℕ) (done : List (List ℕ)) (w : List ℕ) (t : Taken) → number_of w ≡ Some (pos 0) → length t.clauses < 4194304 → Told d done t → Told d (done ++ w ∷ []) (closed t)
-told_zero d done w t e room h = record {
-  numbers = rw (append-nil (numbers_of (t.clauses ++ t.begun ∷ [])), numbers_of-push t.clauses t.begun) (numbers-append done (w ∷ []) (numbers_of t.clauses ++ map to_number t.begun) (pos 0 ∷ []) h.numbers (e, tt));
-  proper = all_push (AllByRecursion Proper) t.clauses t.begun h.proper h.proper_begun;
-  proper_begun = tt;
-  vars = omega (arith, h.vars, greatest_of-push t.clauses t.begun);
-  small = omega (arith, h.small, greatest_of-push t.clauses t.begun);
-  clauses = omega (arith, length-append t.clauses (t.begun ∷ []));
-  count = omega (arith, h.count, literals-push t.clauses t.begun);
-  literals = h.literals;
-}
+told_zero : (f : Format) (d : ℕ) (done : List Token) (t : Taken) → t.ended < 4194304 → Told f d done t → Told f d (done ++ Number (pos 0) ∷ []) (closed t)
+told_zero f d done t room h =
+    let is = items-clause t.content t.begun in
+    record {
+      of_format = format-item t.content (Clause t.begun) ∙ h.of_format;
+      tokens = ap (λ ts. ts ++ Number (pos 0) ∷ []) h.tokens ∙ append_assoc (tokens_of (items_of t.content)) (numbers_of t.begun) (Number (pos 0) ∷ [])
+          ∙ ap (λ ts. tokens_of (items_of t.content) ++ ts) (sym (list_tokens-is t.begun)) ∙ sym (tokens_of-push (items_of t.content) (Clause t.begun)) ∙ ap tokens_of (sym is) ∙ sym (append-nil (tokens_of (items_of (with_item t.content (Clause t.begun)))));
+      proper = subst (λ xs. AllByRecursion IsProper xs) (sym is) (all_push IsProper (items_of t.content) (Clause t.begun) h.proper h.proper_begun);
+      proper_begun = tt;
+      vars = omega (arith, h.vars, ap greatest_of is, greatest_of-push (items_of t.content) (Clause t.begun));
+      small = omega (arith, h.small, ap greatest_of is, greatest_of-push (items_of t.content) (Clause t.begun));
+      ended = omega (arith, h.ended, ap clauses_in is, clauses_in-push (items_of t.content) t.begun);
+      clauses = omega arith;
+      count = omega (arith, h.count, ap literals_in is, literals_in-push (items_of t.content) t.begun);
+      literals = h.literals;
+    }
 
-told_literal : (d : ℕ) (done : List (List ℕ)) (w : List ℕ) (t : Taken) (z : ℤ) → number_of w ≡ Some z → z ≢ pos 0 → size_of z ≤ 1048576 → t.literals < 67108864 → Told d done t → Told d (done ++ w ∷ []) (with_literal t z)
-told_literal d done w t z e some small room h = record {
-  numbers = rw (map-append t.begun (literal_of z ∷ []), to_number-literal_of z some, ← append_assoc (numbers_of t.clauses) (map to_number t.begun) (z ∷ [])) (numbers-append done (w ∷ []) (numbers_of t.clauses ++ map to_number t.begun) (z ∷ []) h.numbers (e, tt));
+told_literal : (f : Format) (d : ℕ) (done : List Token) (t : Taken) (z : ℤ) → z ≢ pos 0 → size_of z ≤ 1048576 → t.literals < 67108864 → Told f d done t → Told f d (done ++ Number z ∷ []) (with_literal t z)
+told_literal f d done t z some small room h = record {
+  of_format = h.of_format;
+  tokens = ap (λ ts. ts ++ Number z ∷ []) h.tokens ∙ append_assoc (tokens_of (items_of t.content)) (numbers_of t.begun) (Number z ∷ [])
+      ∙ ap (λ ts. tokens_of (items_of t.content) ++ ts) (ap (λ (x : ℤ). numbers_of t.begun ++ Number x ∷ []) (sym (to_number-literal_of z some)) ∙ sym (numbers_of-push t.begun (literal_of z)));
   proper = h.proper;
   proper_begun = all_push Proper t.begun (literal_of z) h.proper_begun (proper_code z some);
   vars = omega (arith, h.vars, greatest-push t.begun (literal_of z), half_code z);
   small = omega (arith, h.small, greatest-push t.begun (literal_of z), half_code z);
+  ended = h.ended;
   clauses = h.clauses;
   count = omega (arith, h.count, length-append t.begun (literal_of z ∷ []));
   literals = omega arith;
 }
+
+told_ask : (f : Format) (d : ℕ) (done : List Token) (t : Taken) (c : List ℕ) → f ≡ formats.Icnf → t.begun ≡ [] → AllByRecursion Proper c → greatest c ≤ 1048576 → length c ≤ 1048576 → Told f d done t
+    → Told f d (done ++ Asks c ∷ []) (record { vars = max t.vars (greatest c); content = with_item t.content (Ask c); ended = t.ended; begun = []; literals = t.literals })
+told_ask f d done t c icnf none proper small len h =
+    let is = items-ask t.content c (h.of_format ∙ icnf) in
+    let no_numbers : numbers_of t.begun ≡ [] = ap numbers_of none in
+    let no_greatest : greatest t.begun ≡ 0 = ap greatest none in
+    let no_length : length t.begun ≡ 0 = ap length none in
+    record {
+      of_format = format-item t.content (Ask c) ∙ h.of_format;
+      tokens = ap (λ ts. ts ++ Asks c ∷ []) (h.tokens ∙ ap (λ ts. tokens_of (items_of t.content) ++ ts) no_numbers ∙ append-nil (tokens_of (items_of t.content)))
+          ∙ sym (tokens_of-push (items_of t.content) (Ask c)) ∙ ap tokens_of (sym is) ∙ sym (append-nil (tokens_of (items_of (with_item t.content (Ask c)))));
+      proper = subst (λ xs. AllByRecursion IsProper xs) (sym is) (all_push IsProper (items_of t.content) (Ask c) h.proper (proper, len));
+      proper_begun = tt;
+      vars = omega (arith, h.vars, no_greatest, ap greatest_of is, greatest_of-push (items_of t.content) (Ask c));
+      small = omega (arith, h.small, ap greatest_of is, greatest_of-push (items_of t.content) (Ask c));
+      ended = omega (arith, h.ended, ap clauses_in is, clauses_in-ask (items_of t.content) c);
+      clauses = h.clauses;
+      count = omega (arith, h.count, no_length, ap literals_in is, literals_in-ask (items_of t.content) c);
+      literals = h.literals;
+    }
 
 le-false : (a b : ℕ) → nat_le a b ≡ false → b < a
 le-false a b h = grind (arith, nat_tests)
@@ -117,85 +201,183 @@ le-false a b h = grind (arith, nat_tests)
 ok_same : (r : Result Taken CnfCode) (x y : Taken) → r ≡ Ok x → r ≡ Ok y → x ≡ y
 ok_same r x y a b = cc
 
-told_number : (d : ℕ) (done : List (List ℕ)) (w : List ℕ) (t u : Taken) (z : ℤ) → number_of w ≡ Some z → size_of z ≤ 1048576 → add_number t z ≡ Ok u → Told d done t → Told d (done ++ w ∷ []) u
-told_number d done w t u (pos zero) n small e h = by_test (nat_le 4194304 (length t.clauses)) refl e where
-  by_test : (b : Bool) → nat_le 4194304 (length t.clauses) ≡ b → cond b (Err Limit) (Ok (closed t)) ≡ Ok u → Told d (done ++ w ∷ []) u
+told_number : (f : Format) (d : ℕ) (done : List Token) (t u : Taken) (z : ℤ) → size_of z ≤ 1048576 → add_number t z ≡ Ok u → Told f d done t → Told f d (done ++ Number z ∷ []) u
+told_number f d done t u (pos zero) small e h = by_test (nat_le 4194304 t.ended) refl e where
+  by_test : (b : Bool) → nat_le 4194304 t.ended ≡ b → cond b (Err Limit) (Ok (closed t)) ≡ Ok u → Told f d (done ++ Number (pos 0) ∷ []) u
   by_test true is e = absurd cc
-  by_test false is e = subst (λ v. Told d (done ++ w ∷ []) v) (ok_same (Ok (closed t)) (closed t) u refl e) (told_zero d done w t n (le-false 4194304 (length t.clauses) is) h)
-told_number d done w t u (pos (suc n)) num small e h = by_test (nat_le 67108864 t.literals) refl e where
-  by_test : (b : Bool) → nat_le 67108864 t.literals ≡ b → cond b (Err Limit) (Ok (with_literal t (pos (suc n)))) ≡ Ok u → Told d (done ++ w ∷ []) u
+  by_test false is e = subst (λ v. Told f d (done ++ Number (pos 0) ∷ []) v) (ok_same (Ok (closed t)) (closed t) u refl e) (told_zero f d done t (le-false 4194304 t.ended is) h)
+told_number f d done t u (pos (suc n)) small e h = by_test (nat_le 67108864 t.literals) refl e where
+  by_test : (b : Bool) → nat_le 67108864 t.literals ≡ b → cond b (Err Limit) (Ok (with_literal t (pos (suc n)))) ≡ Ok u → Told f d (done ++ Number (pos (suc n)) ∷ []) u
   by_test true is e = absurd cc
-  by_test false is e = subst (λ v. Told d (done ++ w ∷ []) v) (ok_same (Ok (with_literal t (pos (suc n)))) (with_literal t (pos (suc n))) u refl e) (told_literal d done w t (pos (suc n)) num (λ q. cc) small (le-false 67108864 t.literals is) h)
-told_number d done w t u (negsuc n) num small e h = by_test (nat_le 67108864 t.literals) refl e where
-  by_test : (b : Bool) → nat_le 67108864 t.literals ≡ b → cond b (Err Limit) (Ok (with_literal t (negsuc n))) ≡ Ok u → Told d (done ++ w ∷ []) u
+  by_test false is e = subst (λ v. Told f d (done ++ Number (pos (suc n)) ∷ []) v) (ok_same (Ok (with_literal t (pos (suc n)))) (with_literal t (pos (suc n))) u refl e) (told_literal f d done t (pos (suc n)) (λ q. cc) small (le-false 67108864 t.literals is) h)
+told_number f d done t u (negsuc n) small e h = by_test (nat_le 67108864 t.literals) refl e where
+  by_test : (b : Bool) → nat_le 67108864 t.literals ≡ b → cond b (Err Limit) (Ok (with_literal t (negsuc n))) ≡ Ok u → Told f d (done ++ Number (negsuc n) ∷ []) u
   by_test true is e = absurd cc
-  by_test false is e = subst (λ v. Told d (done ++ w ∷ []) v) (ok_same (Ok (with_literal t (negsuc n))) (with_literal t (negsuc n)) u refl e) (told_literal d done w t (negsuc n) num (λ q. cc) small (le-false 67108864 t.literals is) h)
+  by_test false is e = subst (λ v. Told f d (done ++ Number (negsuc n) ∷ []) v) (ok_same (Ok (with_literal t (negsuc n))) (with_literal t (negsuc n)) u refl e) (told_literal f d done t (negsuc n) (λ q. cc) small (le-false 67108864 t.literals is) h)
 
-told_word : (d : ℕ) (done : List (List ℕ)) (w : List ℕ) (t u : Taken) → add_word t w ≡ Ok u → Told d done t → Told d (done ++ w ∷ []) u
-unfolding add_word
-told_word d done w t u e h = by_begin (begins_number w) e where
-  by_size : (z : ℤ) → number_of w ≡ Some z → (b : Bool) → nat_lt 1048576 (size_of z) ≡ b → cond b (Err Limit) (add_number t z) ≡ Ok u → Told d (done ++ w ∷ []) u
-  by_size z n true is e = absurd cc
-  by_size z n false is e = told_number d done w t u z n (ltb-false 1048576 (size_of z) is) e h
+-- a word that is a number of a list
+pub record IsNumberIn (w : List ℕ) (z : ℤ) : Type 0 where
+  pub number : number_of w ≡ Some z
+  pub small : size_of z ≤ 1048576
 
-  by_number : (o : Option ℤ) → number_of w ≡ o → add_if_number t o ≡ Ok u → Told d (done ++ w ∷ []) u
+is_number_in : (w : List ℕ) (z : ℤ) → number_in w ≡ Ok z → IsNumberIn w z
+unfolding number_in
+is_number_in w z e = by_begin (begins_number w) e where
+  by_size : (y : ℤ) → number_of w ≡ Some y → (b : Bool) → nat_lt 1048576 (size_of y) ≡ b → cond b (Err Limit) (Ok y) ≡ Ok z → IsNumberIn w z
+  by_size y n true is e = absurd cc
+  by_size y n false is e = let same : y ≡ z = cc in subst (λ x. IsNumberIn w x) same (record { number = n; small = ltb-false 1048576 (size_of y) is })
+
+  by_number : (o : Option ℤ) → number_of w ≡ o → within_variables o ≡ Ok z → IsNumberIn w z
   by_number None n e = absurd cc
-  by_number (Some z) n e = by_size z n (nat_lt 1048576 (size_of z)) refl e
+  by_number (Some y) n e = by_size y n (nat_lt 1048576 (size_of y)) refl e
 
-  by_begin : (b : Bool) → cond b (add_if_number t (number_of w)) (Err Word) ≡ Ok u → Told d (done ++ w ∷ []) u
+  by_begin : (b : Bool) → cond b (within_variables (number_of w)) (Err Word) ≡ Ok z → IsNumberIn w z
   by_begin true e = by_number (number_of w) refl e
   by_begin false e = absurd cc
 
-told_words : (d : ℕ) (done ws : List (List ℕ)) (t u : Taken) → add_words t ws ≡ Ok u → Told d done t → Told d (done ++ ws) u
+-- a word of the clauses says a number
+pub record SaysNumber (f : Format) (d : ℕ) (done : List Token) (w : List ℕ) (u : Taken) : Type 0 where
+  pub z : ℤ
+  pub number : number_of w ≡ Some z
+  pub told : Told f d (done ++ Number z ∷ []) u
+
+told_word : (f : Format) (d : ℕ) (done : List Token) (w : List ℕ) (t u : Taken) → add_word t w ≡ Ok u → Told f d done t → SaysNumber f d done w u
+unfolding add_word
+told_word f d done w t u e h = by_number (number_in w) refl e where
+  by_number : (r : Result ℤ CnfCode) → number_in w ≡ r → then_number r (λ z. add_number t z) ≡ Ok u → SaysNumber f d done w u
+  by_number (Ok z) is e = let n = is_number_in w z is in record { z = z; number = n.number; told = told_number f d done t u z n.small e h }
+  by_number (Err c) is e = absurd cc
+
+-- words of the clauses say tokens
+pub record SayNumbers (f : Format) (d : ℕ) (done : List Token) (ws : List (List ℕ)) (u : Taken) : Type 0 where
+  pub tokens : List Token
+  pub numbers : AreNumbers ws tokens
+  pub told : Told f d (done ++ tokens) u
+
+told_words : (f : Format) (d : ℕ) (done : List Token) (ws : List (List ℕ)) (t u : Taken) → add_words t ws ≡ Ok u → Told f d done t → SayNumbers f d done ws u
 unfolding add_words
-told_words d done [] t u e h = let same : t ≡ u = cc in subst (λ v. Told d (done ++ []) v) same (rw (append-nil done) h)
-told_words d done (w ∷ ws) t u e h = by_result (add_word t w) refl e (λ v e h. told_words d (done ++ w ∷ []) ws v u e h) where
-  by_result : (r : Result Taken CnfCode) → add_word t w ≡ r → then_words r (λ v. add_words v ws) ≡ Ok u → ((v : Taken) → add_words v ws ≡ Ok u → Told d (done ++ w ∷ []) v → Told d ((done ++ w ∷ []) ++ ws) u) → Told d (done ++ w ∷ ws) u
-  by_result (Ok v) is e ih = rw (← append_assoc done (w ∷ []) ws) (ih v e (told_word d done w t v is h))
+told_words f d done [] t u e h =
+    let same : t ≡ u = cc in record { tokens = []; numbers = tt; told = subst (λ v. Told f d (done ++ []) v) same (rw (append-nil done) h) }
+told_words f d done (w ∷ ws) t u e h = by_result (add_word t w) refl e (λ ds v e h. told_words f d ds ws v u e h) where
+  by_result : (r : Result Taken CnfCode) → add_word t w ≡ r → then_words r (λ v. add_words v ws) ≡ Ok u
+      → ((ds : List Token) (v : Taken) → add_words v ws ≡ Ok u → Told f d ds v → SayNumbers f d ds ws u) → SayNumbers f d done (w ∷ ws) u
+  by_result (Ok v) is e ih =
+      let s = told_word f d done w t v is h in
+      let r = ih (done ++ Number s.z ∷ []) v e s.told in
+      record { tokens = Number s.z ∷ r.tokens; numbers = (s.number, r.numbers); told = subst (λ ds. Told f d ds u) (append_assoc done (Number s.z ∷ []) r.tokens) r.told }
   by_result (Err c) is e ih = absurd cc
 
--- what a body says
-pub record Body (declared : ℕ) (done : List (List ℕ)) (lines : List (List ℕ)) (v : Cnf) : Type 0 where
-  pub body : List (List ℕ)
-  pub tail : List (List ℕ)
-  pub parts : lines ≡ body ++ tail
-  pub going : AllByRecursion (λ l. begins_end (line_words l) ≡ false) body
-  pub ending : (tail ≡ []) ⊎ ((l : List ℕ) × (ls : List (List ℕ)) × (tail ≡ l ∷ ls) × (begins_end (line_words l) ≡ true))
-  pub last : Taken
-  pub told : Told declared (done ++ flat_map line_words body) last
-  pub none : last.begun ≡ []
-  pub vars : v.vars ≡ last.vars
-  pub clauses : v.clauses ≡ last.clauses
+-- the words of an ask say a list, behind what was read of it
+abbrev pub with_ask : Taken → List ℕ → Taken
+with_ask t c = record { vars = max t.vars (greatest c); content = with_item t.content (Ask (t.begun ++ c)); ended = t.ended; begun = []; literals = t.literals }
+
+pub record SayList (t u : Taken) (ws : List (List ℕ)) : Type 0 where
+  pub lits : List ℕ
+  pub spelled : AreNumbers ws (list_tokens lits)
+  pub proper : AllByRecursion Proper lits
+  pub small : greatest lits ≤ 1048576
+  pub len : length t.begun + length lits ≤ 1048576
+  pub is : u ≡ with_ask t lits
+
+say_none : (t u : Taken) (w : List ℕ) → number_of w ≡ Some (pos 0) → length t.begun ≤ 1048576 → u ≡ asked t → SayList t u (w ∷ [])
+say_none t u w n len e =
+    let same : max t.vars 0 ≡ t.vars = omega arith in
+    record { lits = []; spelled = (n, tt); proper = tt; small = omega arith; len = omega arith; is = e ∙ rw (append-nil t.begun, same) refl }
+
+say_more : (t u : Taken) (z : ℤ) (w : List ℕ) (ws : List (List ℕ)) → number_of w ≡ Some z → size_of z ≤ 1048576 → z ≢ pos 0 → SayList (with_assumption t z) u ws → SayList t u (w ∷ ws)
+say_more t u z w ws n small some s =
+    let half = half_code z in
+    let regroup : (t.begun ++ literal_of z ∷ []) ++ s.lits ≡ t.begun ++ literal_of z ∷ s.lits = append_assoc t.begun (literal_of z ∷ []) s.lits in
+    let greater : max (max t.vars (size_of z)) (greatest s.lits) ≡ max t.vars (max (literal_of z / 2) (greatest s.lits)) = omega (arith, half) in
+    record {
+      lits = literal_of z ∷ s.lits;
+      spelled = (n ∙ ap Some (sym (to_number-literal_of z some)), s.spelled);
+      proper = (proper_code z some, s.proper);
+      small = omega (arith, half, s.small);
+      len = omega (arith, s.len, length-append t.begun (literal_of z ∷ []));
+      is = s.is ∙ rw (regroup, greater) refl;
+    }
+
+told_list : (t u : Taken) (ws : List (List ℕ)) → length t.begun ≤ 1048576 → ask_words t ws ≡ Ok u → SayList t u ws
+unfolding ask_words
+told_list t u [] len e = absurd cc
+told_list t u (w ∷ ws) len e = by_number (number_in w) refl e (λ v len e. told_list v u ws len e) where
+  by_zero : (ws : List (List ℕ)) → number_of w ≡ Some (pos 0) → ask_ends t ws ≡ Ok u → SayList t u (w ∷ ws)
+  by_zero [] n e = let same : asked t ≡ u = cc in say_none t u w n len (sym same)
+  by_zero (x ∷ ws) n e = absurd cc
+
+  by_room : (z : ℤ) → IsNumberIn w z → z ≢ pos 0 → (b : Bool) → nat_le 1048576 (length t.begun) ≡ b → cond b (Err Limit) (ask_words (with_assumption t z) ws) ≡ Ok u
+      → ((v : Taken) → length v.begun ≤ 1048576 → ask_words v ws ≡ Ok u → SayList v u ws) → SayList t u (w ∷ ws)
+  by_room z n some true is e ih = absurd cc
+  by_room z n some false is e ih =
+      let below = le-false 1048576 (length t.begun) is in
+      say_more t u z w ws n.number n.small some (ih (with_assumption t z) (omega (arith, length-append t.begun (literal_of z ∷ []))) e)
+
+  by_number : (r : Result ℤ CnfCode) → number_in w ≡ r → ask_number t r ws (λ v. ask_words v ws) ≡ Ok u
+      → ((v : Taken) → length v.begun ≤ 1048576 → ask_words v ws ≡ Ok u → SayList v u ws) → SayList t u (w ∷ ws)
+  by_number (Err c) is e ih = absurd cc
+  by_number (Ok (pos zero)) is e ih = by_zero ws (is_number_in w (pos 0) is).number e
+  by_number (Ok (pos (suc n))) is e ih = by_room (pos (suc n)) (is_number_in w (pos (suc n)) is) (λ q. cc) (nat_le 1048576 (length t.begun)) refl e ih
+  by_number (Ok (negsuc n)) is e ih = by_room (negsuc n) (is_number_in w (negsuc n) is) (λ q. cc) (nat_le 1048576 (length t.begun)) refl e ih
 
 nil_of : (xs : List ℕ) → (length xs == 0) ≡ true → xs ≡ []
 nil_of [] e = refl
 nil_of (x ∷ xs) e = let ne : (suc (length xs) ≡ 0 → ⊥) = λ q. omega arith in let f = ne_eqb (suc (length xs)) 0 ne in cc
 
-whole_is : (t : Taken) (k : ℕ) (v : Cnf) → whole t k ≡ Ok v → (t.begun ≡ []) × (v.vars ≡ t.vars) × (v.clauses ≡ t.clauses)
-whole_is t k v e = by_test (length t.begun == 0) refl where
-  by_test : (b : Bool) → (length t.begun == 0) ≡ b → (t.begun ≡ []) × (v.vars ≡ t.vars) × (v.clauses ≡ t.clauses)
-  by_test true is =
-      let made : Cnf = record { vars = t.vars; clauses = t.clauses } in
-      let ok : whole t k ≡ Ok made = rw is refl in
-      let same : made ≡ v = cc in
-      (nil_of t.begun is, sym (ap (λ (x : Cnf). x.vars) same), sym (ap (λ (x : Cnf). x.clauses) same))
-  by_test false is = let err : whole t k ≡ Err (record { line = k; code = Unterminated }) = rw is refl in absurd cc
+-- a line of the body says tokens
+pub record Says (f : Format) (d : ℕ) (done : List Token) (ws : List (List ℕ)) (u : Taken) : Type 0 where
+  pub tokens : List Token
+  pub says : LineSays f ws tokens
+  pub told : Told f d (done ++ tokens) u
 
-body_more : (d : ℕ) (done : List (List ℕ)) (l : List ℕ) (ls : List (List ℕ)) (v : Cnf) → begins_end (line_words l) ≡ false → Body d (done ++ line_words l) ls v → Body d done (l ∷ ls) v
-body_more d done l ls v go b = record {
-  body = l ∷ b.body;
-  tail = b.tail;
-  parts = ap (λ xs. l ∷ xs) b.parts;
-  going = (go, b.going);
-  ending = b.ending;
-  last = b.last;
-  told = subst (λ ws. Told d ws b.last) (append_assoc done (line_words l) (flat_map line_words b.body)) b.told;
-  none = b.none;
-  vars = b.vars;
-  clauses = b.clauses;
-}
+goes_same : (t u : Taken) → Goes t ≡ Goes u → t ≡ u
+goes_same t u e = cc
 
-words_plain : (l : List ℕ) → is_comment l ≡ false → line_words l ≡ words_of l
+told_plain : (f : Format) (d : ℕ) (done : List Token) (ws : List (List ℕ)) (t u : Taken) → begins_ask f ws ≡ false → moves (add_words t ws) ≡ Goes u → Told f d done t → Says f d done ws u
+told_plain f d done ws t u other e h = by_result (add_words t ws) refl e where
+  by_result : (r : Result Taken CnfCode) → add_words t ws ≡ r → moves r ≡ Goes u → Says f d done ws u
+  by_result (Ok v) is e = let s = told_words f d done ws t u (is ∙ ap Ok (goes_same v u e)) h in record { tokens = s.tokens; says = inl (other, s.numbers); told = s.told }
+  by_result (Err c) is e = absurd cc
+
+is_icnf : (f : Format) (w : List ℕ) → is_ask f w ≡ true → f ≡ formats.Icnf
+is_icnf formats.Cnf w e = absurd cc
+is_icnf formats.Icnf w e = refl
+
+told_asks : (f : Format) (d : ℕ) (done : List Token) (w : List ℕ) (ws : List (List ℕ)) (t u : Taken) → is_ask f w ≡ true → ask_line t ws ≡ Goes u → Told f d done t → Says f d done (w ∷ ws) u
+told_asks f d done w ws t u begins e h = by_open (length t.begun == 0) refl e where
+  by_list : t.begun ≡ [] → SayList t u ws → Says f d done (w ∷ ws) u
+  by_list none s =
+      let same : t.begun ++ s.lits ≡ s.lits = ap (λ xs. xs ++ s.lits) none in
+      let zero_length : length t.begun ≡ 0 = ap length none in
+      record {
+        tokens = Asks s.lits ∷ [];
+        says = inr (begins, record { lits = s.lits; one = refl; spelled = s.spelled });
+        told = subst (λ v. Told f d (done ++ Asks s.lits ∷ []) v) (sym (s.is ∙ rw same refl)) (told_ask f d done t s.lits (is_icnf f w begins) none s.proper s.small (omega (arith, s.len)) h);
+      }
+
+  by_result : t.begun ≡ [] → (r : Result Taken CnfCode) → ask_words t ws ≡ r → moves r ≡ Goes u → Says f d done (w ∷ ws) u
+  by_result none (Ok v) is e = by_list none (told_list t u ws (omega (arith, ap length none)) (is ∙ ap Ok (goes_same v u e)))
+  by_result none (Err c) is e = absurd cc
+
+  by_open : (b : Bool) → (length t.begun == 0) ≡ b → cond b (moves (ask_words t ws)) (Stops Unterminated) ≡ Goes u → Says f d done (w ∷ ws) u
+  by_open true is e = by_result (nil_of t.begun is) (ask_words t ws) refl e
+  by_open false is e = absurd cc
+
+no_words : (f : Format) (d : ℕ) (done : List Token) (t u : Taken) → Goes t ≡ Goes u → Told f d done t → Says f d done [] u
+no_words f d done t u e h = record { tokens = []; says = inl (refl, tt); told = subst (λ v. Told f d (done ++ []) v) (goes_same t u e) (rw (append-nil done) h) }
+
+told_line : (f : Format) (d : ℕ) (done : List Token) (ws : List (List ℕ)) (t u : Taken) → body_words t ws ≡ Goes u → Told f d done t → (begins_end ws ≡ false) × Says f d done ws u
+told_line f d done [] t u e h = (refl, no_words f d done t u e h)
+told_line f d done (w ∷ ws) t u e h = by_end (is_end w) refl e where
+  by_ask : (b : Bool) → is_ask f w ≡ b → cond b (ask_line t ws) (moves (add_words t (w ∷ ws))) ≡ Goes u → Says f d done (w ∷ ws) u
+  by_ask true is e = told_asks f d done w ws t u is e h
+  by_ask false is e = told_plain f d done (w ∷ ws) t u is e h
+
+  by_end : (b : Bool) → is_end w ≡ b → cond b Ends (cond (is_ask (format_of t.content) w) (ask_line t ws) (moves (add_words t (w ∷ ws)))) ≡ Goes u → (is_end w ≡ false) × Says f d done (w ∷ ws) u
+  by_end true is e = absurd cc
+  by_end false is e = (is, by_ask (is_ask (format_of t.content) w) (ap (λ g. is_ask g w) (sym h.of_format)) e)
+
+pub words_plain : (l : List ℕ) → is_comment l ≡ false → line_words l ≡ words_of l
 unfolding line_words
 words_plain l e = rw e refl
 
@@ -218,221 +400,152 @@ comment_or l = by_test (is_comment l) where
   by_test false = inr refl
 
 -- a line of the body is its words
-line_is : (t : Taken) (l : List ℕ) → body_line t l ≡ body_words t (line_words l)
+pub line_is : (t : Taken) (l : List ℕ) → body_line t l ≡ body_words t (line_words l)
 line_is t l = elim (comment_or l) [ inl c ↦ line_comment t l c | inr c ↦ line_plain t l c ]
 
-body_is : (d k : ℕ) (done : List (List ℕ)) (t : Taken) (ls : List (List ℕ)) (v : Cnf) → read_body k t ls ≡ Ok v → Told d done t → Body d done ls v
-unfolding read_body
-body_is d k done t [] v e h =
+-- what a body says
+pub record Body (f : Format) (declared : ℕ) (done : List Token) (lines : List (List ℕ)) (v : File) : Type 0 where
+  pub body : List (List ℕ)
+  pub tail : List (List ℕ)
+  pub parts : lines ≡ body ++ tail
+  pub going : AllByRecursion (λ l. begins_end (line_words l) ≡ false) body
+  pub ending : (tail ≡ []) ⊎ ((l : List ℕ) × (ls : List (List ℕ)) × (tail ≡ l ∷ ls) × (begins_end (line_words l) ≡ true))
+  pub tokens : List Token
+  pub say : LinesSay f body tokens
+  pub last : Taken
+  pub told : Told f declared (done ++ tokens) last
+  pub none : last.begun ≡ []
+  pub vars : v.vars ≡ last.vars
+  pub content : v.content ≡ last.content
+
+whole_is : (t : Taken) (k : ℕ) (v : File) → whole t k ≡ Ok v → (t.begun ≡ []) × (v.vars ≡ t.vars) × (v.content ≡ t.content)
+whole_is t k v e = by_test (length t.begun == 0) refl where
+  by_test : (b : Bool) → (length t.begun == 0) ≡ b → (t.begun ≡ []) × (v.vars ≡ t.vars) × (v.content ≡ t.content)
+  by_test true is =
+      let made : File = record { vars = t.vars; content = t.content } in
+      let ok : whole t k ≡ Ok made = rw is refl in
+      let same : made ≡ v = cc in
+      (nil_of t.begun is, sym (ap (λ (x : File). x.vars) same), sym (ap (λ (x : File). x.content) same))
+  by_test false is = let err : whole t k ≡ Err (record { line = k; code = Unterminated }) = rw is refl in absurd cc
+
+body_more : (f : Format) (d : ℕ) (done us : List Token) (l : List ℕ) (ls : List (List ℕ)) (v : File) → begins_end (line_words l) ≡ false → LineSays f (line_words l) us → Body f d (done ++ us) ls v → Body f d done (l ∷ ls) v
+body_more f d done us l ls v go says b = record {
+  body = l ∷ b.body;
+  tail = b.tail;
+  parts = ap (λ xs. l ∷ xs) b.parts;
+  going = (go, b.going);
+  ending = b.ending;
+  tokens = us ++ b.tokens;
+  say = (us, b.tokens, refl, says, b.say);
+  last = b.last;
+  told = subst (λ ts. Told f d ts b.last) (append_assoc done us b.tokens) b.told;
+  none = b.none;
+  vars = b.vars;
+  content = b.content;
+}
+
+body_ends : (f : Format) (d k : ℕ) (done : List Token) (t : Taken) (tail : List (List ℕ)) (v : File) → whole t k ≡ Ok v → Told f d done t
+    → (tail ≡ []) ⊎ ((l : List ℕ) × (ls : List (List ℕ)) × (tail ≡ l ∷ ls) × (begins_end (line_words l) ≡ true)) → Body f d done tail v
+body_ends f d k done t tail v e h ending =
     let w = whole_is t k v e in
-    record { body = []; tail = []; parts = refl; going = tt; ending = inl refl; last = t; told = rw (append-nil done) h; none = w.0; vars = w.1; clauses = w.2 }
-body_is d k done t (l ∷ ls) v e h = by_words (line_words l) refl (rw (line_is t l) at e) (λ ds u e h. body_is d (k + 1) ds u ls v e h) where
-  by_result : (r : Result Taken CnfCode) (ws : List (List ℕ)) → line_words l ≡ ws → begins_end ws ≡ false → add_words t ws ≡ r → after_move (moves r) t k (λ u. read_body (k + 1) u ls) ≡ Ok v
-      → ((ds : List (List ℕ)) (u : Taken) → read_body (k + 1) u ls ≡ Ok v → Told d ds u → Body d ds ls v) → Body d done (l ∷ ls) v
-  by_result (Ok u) ws is go r e ih = body_more d done l ls v (ap begins_end is ∙ go) (ih (done ++ line_words l) u e (subst (λ xs. Told d (done ++ xs) u) (sym is) (told_words d done ws t u r h)))
-  by_result (Err c) ws is go r e ih = absurd cc
+    record { body = []; tail = tail; parts = refl; going = tt; ending = ending; tokens = []; say = refl; last = t; told = rw (append-nil done) h; none = w.0; vars = w.1; content = w.2 }
 
-  by_end : (b : Bool) (w : List ℕ) (ws : List (List ℕ)) → line_words l ≡ w ∷ ws → bytes_eq w end_word ≡ b → after_move (cond b Ends (moves (add_words t (w ∷ ws)))) t k (λ u. read_body (k + 1) u ls) ≡ Ok v
-      → ((ds : List (List ℕ)) (u : Taken) → read_body (k + 1) u ls ≡ Ok v → Told d ds u → Body d ds ls v) → Body d done (l ∷ ls) v
-  by_end true w ws is b e ih =
-      let x = whole_is t k v e in
-      record { body = []; tail = l ∷ ls; parts = refl; going = tt; ending = inr (l, ls, refl, ap begins_end is ∙ b); last = t; told = rw (append-nil done) h; none = x.0; vars = x.1; clauses = x.2 }
-  by_end false w ws is b e ih = by_result (add_words t (w ∷ ws)) (w ∷ ws) is b refl e ih
+ends_begins : (t : Taken) (ws : List (List ℕ)) → body_words t ws ≡ Ends → begins_end ws ≡ true
+ends_begins t [] e = absurd cc
+ends_begins t (w ∷ ws) e = by_end (is_end w) e where
+  by_moves : (r : Result Taken CnfCode) → moves r ≡ Ends → ⊥
+  by_moves (Ok u) e = cc
+  by_moves (Err c) e = cc
 
-  by_words : (ws : List (List ℕ)) → line_words l ≡ ws → after_move (body_words t ws) t k (λ u. read_body (k + 1) u ls) ≡ Ok v
-      → ((ds : List (List ℕ)) (u : Taken) → read_body (k + 1) u ls ≡ Ok v → Told d ds u → Body d ds ls v) → Body d done (l ∷ ls) v
-  by_words [] is e ih = body_more d done l ls v (ap begins_end is) (ih (done ++ line_words l) t e (subst (λ xs. Told d (done ++ xs) t) (sym is) (rw (append-nil done) h)))
-  by_words (w ∷ ws) is e ih = by_end (bytes_eq w end_word) w ws is refl e ih
+  by_open : (b : Bool) → cond b (moves (ask_words t ws)) (Stops Unterminated) ≡ Ends → ⊥
+  by_open true e = by_moves (ask_words t ws) e
+  by_open false e = cc
+
+  by_ask : (b : Bool) → cond b (ask_line t ws) (moves (add_words t (w ∷ ws))) ≡ Ends → ⊥
+  by_ask true e = by_open (length t.begun == 0) e
+  by_ask false e = by_moves (add_words t (w ∷ ws)) e
+
+  by_end : (b : Bool) → cond b Ends (cond (is_ask (format_of t.content) w) (ask_line t ws) (moves (add_words t (w ∷ ws)))) ≡ Ends → b ≡ true
+  by_end true e = refl
+  by_end false e = absurd (by_ask (is_ask (format_of t.content) w) e)
+
+body_is : (f : Format) (d k : ℕ) (done : List Token) (t : Taken) (ls : List (List ℕ)) (v : File) → read_body k t ls ≡ Ok v → Told f d done t → Body f d done ls v
+unfolding read_body
+body_is f d k done t [] v e h = body_ends f d k done t [] v e h (inl refl)
+body_is f d k done t (l ∷ ls) v e h = by_move (body_words t (line_words l)) refl (ap (λ m. after_move m t k (λ u. read_body (k + 1) u ls)) (sym (line_is t l)) ∙ e) (λ ds u e h. body_is f d (k + 1) ds u ls v e h) where
+  by_move : (m : Move) → body_words t (line_words l) ≡ m → after_move m t k (λ u. read_body (k + 1) u ls) ≡ Ok v
+      → ((ds : List Token) (u : Taken) → read_body (k + 1) u ls ≡ Ok v → Told f d ds u → Body f d ds ls v) → Body f d done (l ∷ ls) v
+  by_move (Goes u) is e ih = let s = told_line f d done (line_words l) t u is h in body_more f d done s.1.tokens l ls v s.0 s.1.says (ih (done ++ s.1.tokens) u e s.1.told)
+  by_move Ends is e ih = body_ends f d k done t (l ∷ ls) v e h (inr (l, ls, refl, ends_begins t (line_words l) is))
+  by_move (Stops c) is e ih = absurd cc
 
 -- the lines from the first on
-pub record File (lines : List (List ℕ)) (v : Cnf) : Type 0 where
+pub record Parts (f : Format) (lines : List (List ℕ)) (v : File) : Type 0 where
   pub front : List (List ℕ)
   pub head : List ℕ
   pub rest : List (List ℕ)
   pub declared : ℕ
   pub parts : lines ≡ front ++ head ∷ rest
   pub silent : AllByRecursion (λ l. line_words l ≡ []) front
-  pub header : header_words (line_words head) ≡ Ok declared
-  pub body : Body declared [] rest v
+  pub header : header_words f (line_words head) ≡ Ok declared
+  pub body : Body f declared [] rest v
 
-told_none : (d : ℕ) → Told d [] (begin d)
-told_none d = record { numbers = tt; proper = tt; proper_begun = tt; vars = omega arith; small = omega arith; clauses = omega arith; count = refl; literals = omega arith }
+told_none : (f : Format) (d : ℕ) → Told f d [] (begin f d)
+told_none formats.Cnf d = record { of_format = refl; tokens = refl; proper = tt; proper_begun = tt; vars = omega arith; small = omega arith; ended = refl; clauses = omega arith; count = refl; literals = omega arith }
+told_none formats.Icnf d = record { of_format = refl; tokens = refl; proper = tt; proper_begun = tt; vars = omega arith; small = omega arith; ended = refl; clauses = omega arith; count = refl; literals = omega arith }
 
-file_more : (l : List ℕ) (ls : List (List ℕ)) (v : Cnf) → line_words l ≡ [] → File ls v → File (l ∷ ls) v
-file_more l ls v none f = record { front = l ∷ f.front; head = f.head; rest = f.rest; declared = f.declared; parts = ap (λ xs. l ∷ xs) f.parts; silent = (none, f.silent); header = f.header; body = f.body }
+parts_more : (f : Format) (l : List ℕ) (ls : List (List ℕ)) (v : File) → line_words l ≡ [] → Parts f ls v → Parts f (l ∷ ls) v
+parts_more f l ls v none p = record { front = l ∷ p.front; head = p.head; rest = p.rest; declared = p.declared; parts = ap (λ xs. l ∷ xs) p.parts; silent = (none, p.silent); header = p.header; body = p.body }
 
 -- a line before the body is its words too
-head_line_is : (k : ℕ) (l : List ℕ) (ls : List (List ℕ)) → read_lines k (l ∷ ls) ≡ head_words (line_words l) k (read_lines (k + 1) ls) (λ t. read_body (k + 1) t ls)
+pub head_line_is : (f : Format) (k : ℕ) (l : List ℕ) (ls : List (List ℕ)) → read_lines f k (l ∷ ls) ≡ head_words f (line_words l) k (read_lines f (k + 1) ls) (λ t. read_body (k + 1) t ls)
 unfolding read_lines
-head_line_is k l ls = elim (comment_or l) [ inl c ↦ rw (c, words_comment l c) refl | inr c ↦ rw (c, words_plain l c) refl ]
+head_line_is f k l ls = elim (comment_or l) [ inl c ↦ rw (c, words_comment l c) refl | inr c ↦ rw (c, words_plain l c) refl ]
 
-file_is : (k : ℕ) (ls : List (List ℕ)) (v : Cnf) → read_lines k ls ≡ Ok v → File ls v
+parts_are : (f : Format) (k : ℕ) (ls : List (List ℕ)) (v : File) → read_lines f k ls ≡ Ok v → Parts f ls v
 unfolding read_lines
-file_is k [] v e = absurd cc
-file_is k (l ∷ ls) v e = by_words (line_words l) refl (sym (head_line_is k l ls) ∙ e) (λ e. file_is (k + 1) ls v e) where
-  by_counts : (r : Result ℕ CnfCode) (w : List ℕ) (ws : List (List ℕ)) → line_words l ≡ w ∷ ws → header_words (w ∷ ws) ≡ r → begin_body r k (λ t. read_body (k + 1) t ls) ≡ Ok v → File (l ∷ ls) v
-  by_counts (Ok d) w ws is r e = record { front = []; head = l; rest = ls; declared = d; parts = refl; silent = tt; header = ap header_words is ∙ r; body = body_is d (k + 1) [] (begin d) ls v e (told_none d) }
+parts_are f k [] v e = absurd cc
+parts_are f k (l ∷ ls) v e = by_words (line_words l) refl (sym (head_line_is f k l ls) ∙ e) (λ e. parts_are f (k + 1) ls v e) where
+  by_counts : (r : Result ℕ CnfCode) (w : List ℕ) (ws : List (List ℕ)) → line_words l ≡ w ∷ ws → header_words f (w ∷ ws) ≡ r → begin_body f r k (λ t. read_body (k + 1) t ls) ≡ Ok v → Parts f (l ∷ ls) v
+  by_counts (Ok d) w ws is r e = record { front = []; head = l; rest = ls; declared = d; parts = refl; silent = tt; header = ap (header_words f) is ∙ r; body = body_is f d (k + 1) [] (begin f d) ls v e (told_none f d) }
   by_counts (Err c) w ws is r e = absurd cc
 
-  by_words : (ws : List (List ℕ)) → line_words l ≡ ws → head_words ws k (read_lines (k + 1) ls) (λ t. read_body (k + 1) t ls) ≡ Ok v → (read_lines (k + 1) ls ≡ Ok v → File ls v) → File (l ∷ ls) v
-  by_words [] is e ih = file_more l ls v is (ih e)
-  by_words (w ∷ ws) is e ih = by_counts (header_words (w ∷ ws)) w ws is refl e
+  by_words : (ws : List (List ℕ)) → line_words l ≡ ws → head_words f ws k (read_lines f (k + 1) ls) (λ t. read_body (k + 1) t ls) ≡ Ok v → (read_lines f (k + 1) ls ≡ Ok v → Parts f ls v) → Parts f (l ∷ ls) v
+  by_words [] is e ih = parts_more f l ls v is (ih e)
+  by_words (w ∷ ws) is e ih = by_counts (header_words f (w ∷ ws)) w ws is refl e
 
-pub is_cnf : (bytes : List ℕ) (v : Cnf) → read_cnf bytes ≡ Ok v → IsCnf v bytes
-unfolding read_cnf
-is_cnf bytes v e =
-    let f = file_is 1 (lines_of bytes) v e in
-    let b = f.body in
+pub record ReadIs (f : Format) (bytes : List ℕ) (v : File) : Type 0 where
+  pub of_format : format_of v.content ≡ f
+  pub stands : IsFile v bytes
+
+pub is_file : (f : Format) (bytes : List ℕ) (v : File) → read_file f bytes ≡ Ok v → ReadIs f bytes v
+unfolding read_file
+is_file f bytes v e =
+    let p = parts_are f 1 (lines_of bytes) v e in
+    let b = p.body in
     let t = b.told in
-    let same : greatest_of v.clauses ≡ greatest_of b.last.clauses = ap greatest_of b.clauses in
+    let of_format : format_of v.content ≡ f = ap format_of b.content ∙ t.of_format in
     let none : greatest b.last.begun ≡ 0 = ap greatest b.none in
+    let none_long : length b.last.begun ≡ 0 = ap length b.none in
+    let tokens : b.tokens ≡ tokens_of (items_of v.content) = t.tokens ∙ ap (λ c. tokens_of (items_of b.last.content) ++ numbers_of c) b.none ∙ append-nil (tokens_of (items_of b.last.content)) ∙ ap (λ k. tokens_of (items_of k)) (sym b.content) in
     record {
-      front = f.front;
-      head = f.head;
-      body = b.body;
-      tail = b.tail;
-      declared = f.declared;
-      lines = f.parts ∙ ap (λ xs. f.front ++ f.head ∷ xs) b.parts;
-      silent = f.silent;
-      header = f.header;
-      going = b.going;
-      ending = b.ending;
-      spelled = subst (λ zs. AreNumbers (flat_map line_words b.body) zs) (ap (λ c. numbers_of b.last.clauses ++ map to_number c) b.none ∙ append-nil (numbers_of b.last.clauses) ∙ ap numbers_of (sym b.clauses)) t.numbers;
-      proper = subst (λ cs. AllByRecursion (AllByRecursion Proper) cs) (sym b.clauses) t.proper;
-      vars = omega (arith, t.vars, b.vars, same, none);
-      small = omega (arith, t.small, same, none);
-      clauses = omega (arith, t.clauses, ap length b.clauses);
-      literals = omega (arith, t.literals, t.count, ap literals_in b.clauses);
+      of_format = of_format;
+      stands = record {
+        front = p.front;
+        head = p.head;
+        body = b.body;
+        tail = b.tail;
+        declared = p.declared;
+        lines = p.parts ∙ ap (λ xs. p.front ++ p.head ∷ xs) b.parts;
+        silent = p.silent;
+        header = ap (λ g. header_words g (line_words p.head)) of_format ∙ p.header;
+        going = b.going;
+        ending = b.ending;
+        spelled = subst (λ g. LinesSay g b.body (tokens_of (items_of v.content))) (sym of_format) (subst (λ ts. LinesSay f b.body ts) tokens b.say);
+        proper = subst (λ k. AllByRecursion IsProper (items_of k)) (sym b.content) t.proper;
+        vars = omega (arith, t.vars, b.vars, ap (λ k. greatest_of (items_of k)) b.content, none);
+        small = omega (arith, t.small, ap (λ k. greatest_of (items_of k)) b.content);
+        clauses = omega (arith, t.clauses, t.ended, ap (λ k. clauses_in (items_of k)) b.content);
+        literals = omega (arith, t.literals, t.count, none_long, ap (λ k. literals_in (items_of k)) b.content);
+      };
     }
-
--- the other way
-digits_begin : (b : ℕ) (bs : List ℕ) (z : ℤ) → option_map pos (magnitude (b ∷ bs)) ≡ Some z → is_ascii_digit b ≡ true
-unfolding magnitude
-digits_begin b bs z e = by_test (is_ascii_digit b) refl e where
-  by_test : (d : Bool) → is_ascii_digit b ≡ d → option_map pos (cond (d && all_ascii_digits bs) (Some (read_on 0 (b ∷ bs))) None) ≡ Some z → is_ascii_digit b ≡ true
-  by_test true is e = is
-  by_test false is e = absurd cc
-
-begins : (w : List ℕ) (z : ℤ) → number_of w ≡ Some z → begins_number w ≡ true
-unfolding number_of
-begins [] z e = absurd cc
-begins (b ∷ bs) z e = by_test (b == 45) e where
-  by_test : (m : Bool) → cond m (negated (magnitude bs)) (option_map pos (magnitude (b ∷ bs))) ≡ Some z → (m || is_ascii_digit b) ≡ true
-  by_test true e = refl
-  by_test false e = digits_begin b bs z e
-
-lit_step : (t : Taken) (l : ℕ) (w : List ℕ) → number_of w ≡ Some (to_number l) → Proper l → l / 2 ≤ 1048576 → t.literals < 67108864
-    → add_word t w ≡ Ok (record { vars = max t.vars (l / 2); clauses = t.clauses; begun = t.begun ++ l ∷ []; literals = t.literals + 1 })
-unfolding add_word to_number
-lit_step t l w e low high room = elim (eqb_tells (l % 2) 0) [
-  | inl even ↦ rw (begins w (to_number l) e, e) (rw even.0 (positive (l / 2) refl (omega (arith, even.1))))
-  | inr odd ↦ rw (begins w (to_number l) e, e) (rw odd.0 (negative (l / 2 - 1) (omega arith) (omega (arith, odd.1))))
-] where
-  free : nat_le 67108864 t.literals ≡ false
-  free = grind (arith, nat_tests)
-
-  fits : nat_lt 1048576 (l / 2) ≡ false
-  fits = le-ltb 1048576 (l / 2) high
-
-  positive : (n : ℕ) → n ≡ l / 2 → 2 * n ≡ l → add_if_number t (Some (pos n)) ≡ Ok (record { vars = max t.vars (l / 2); clauses = t.clauses; begun = t.begun ++ l ∷ []; literals = t.literals + 1 })
-  positive zero half code = absurd (omega arith)
-  positive (suc n) half code = rw (code, half, fits, free) refl
-
-  negative : (n : ℕ) → suc n ≡ l / 2 → 2 * suc n + 1 ≡ l → add_if_number t (Some (negsuc n)) ≡ Ok (record { vars = max t.vars (l / 2); clauses = t.clauses; begun = t.begun ++ l ∷ []; literals = t.literals + 1 })
-  negative n half code = rw (code, half, fits, free) refl
-
-zero_step : (t : Taken) (w : List ℕ) → number_of w ≡ Some (pos 0) → length t.clauses < 4194304 → add_word t w ≡ Ok (closed t)
-unfolding add_word
-zero_step t w e room = let free : nat_le 4194304 (length t.clauses) ≡ false = grind (arith, nat_tests) in rw (begins w (pos 0) e, e, free) refl
-
-abbrev with_clause : Taken → List ℕ → Taken
-with_clause t c = record { vars = max t.vars (greatest c); clauses = t.clauses ++ (t.begun ++ c) ∷ []; begun = []; literals = t.literals + length c }
-
-clause_steps : (t : Taken) (c : List ℕ) (rest : List ℤ) (ws : List (List ℕ)) → AreNumbers ws (map to_number c ++ pos 0 ∷ rest) → AllByRecursion Proper c → greatest c ≤ 1048576 → t.literals + length c ≤ 67108864 → length t.clauses < 4194304
-    → (vs : List (List ℕ)) × AreNumbers vs rest × (add_words t ws ≡ add_words (with_clause t c) vs)
-unfolding add_words
-clause_steps t [] rest [] h proper high room free = absurd h
-clause_steps t [] rest (w ∷ ws) h proper high room free =
-    let same : max t.vars 0 ≡ t.vars = omega arith in
-    (ws, h.1, rw (zero_step t w h.0 free, append-nil t.begun, add-zero t.literals, same) refl)
-clause_steps t (l ∷ c) rest [] h proper high room free = absurd h
-clause_steps t (l ∷ c) rest (w ∷ ws) h proper high room free =
-    let u : Taken = record { vars = max t.vars (l / 2); clauses = t.clauses; begun = t.begun ++ l ∷ []; literals = t.literals + 1 } in
-    let ih = clause_steps u c rest ws h.1 proper.1 (omega arith) (omega arith) free in
-    let regroup : (t.begun ++ l ∷ []) ++ c ≡ t.begun ++ l ∷ c = append_assoc t.begun (l ∷ []) c in
-    let count : t.literals + 1 + length c ≡ t.literals + suc (length c) = omega arith in
-    let greater : max (max t.vars (l / 2)) (greatest c) ≡ max t.vars (max (l / 2) (greatest c)) = omega arith in
-    let same : with_clause u c ≡ with_clause t (l ∷ c) = rw (regroup, count, greater) refl in
-    (ih.0, ih.1, rw (lit_step t l w h.0 proper.0 (omega arith) (omega arith)) (ih.2 ∙ ap (λ s. add_words s ih.0) same))
-
-abbrev R : Taken → Result Taken CnfCode
-R t = Ok t
-
-all_steps : (t : Taken) (cs : List (List ℕ)) (ws : List (List ℕ)) → t.begun ≡ [] → AreNumbers ws (numbers_of cs) → AllByRecursion (AllByRecursion Proper) cs → greatest_of cs ≤ 1048576 → t.literals + literals_in cs ≤ 67108864 → length t.clauses + length cs ≤ 4194304
-    → add_words t ws ≡ Ok (record { vars = max t.vars (greatest_of cs); clauses = t.clauses ++ cs; begun = []; literals = t.literals + literals_in cs })
-unfolding add_words
-all_steps t [] [] none h proper high room free = let same : max t.vars 0 ≡ t.vars = omega arith in rw (append-nil t.clauses, add-zero t.literals, same, ← none) refl
-all_steps t [] (w ∷ ws) none h proper high room free = absurd h
-all_steps t (c ∷ cs) ws none h proper high room free =
-    let first = clause_steps t c (numbers_of cs) ws h proper.0 (omega arith) (omega arith) (omega arith) in
-    let then = all_steps (with_clause t c) cs first.0 refl first.1 proper.1 (omega arith) (omega arith) (omega (arith, length-append t.clauses ((t.begun ++ c) ∷ []))) in
-    let regroup : (t.clauses ++ (t.begun ++ c) ∷ []) ++ cs ≡ t.clauses ++ c ∷ cs = append_assoc t.clauses ((t.begun ++ c) ∷ []) cs ∙ ap (λ xs. t.clauses ++ (xs ++ c) ∷ cs) none in
-    let count : t.literals + length c + literals_in cs ≡ t.literals + (length c + literals_in cs) = omega arith in
-    let greater : max (max t.vars (greatest c)) (greatest_of cs) ≡ max t.vars (max (greatest c) (greatest_of cs)) = omega arith in
-    let same : R (record { vars = max (max t.vars (greatest c)) (greatest_of cs); clauses = (t.clauses ++ (t.begun ++ c) ∷ []) ++ cs; begun = []; literals = t.literals + length c + literals_in cs }) ≡ R (record { vars = max t.vars (max (greatest c) (greatest_of cs)); clauses = t.clauses ++ c ∷ cs; begun = []; literals = t.literals + (length c + literals_in cs) }) = rw (regroup, count, greater) refl in
-    first.2 ∙ then ∙ same
-
-add-append : (t : Taken) (xs ys : List (List ℕ)) → add_words t (xs ++ ys) ≡ then_words (add_words t xs) (λ u. add_words u ys)
-unfolding add_words
-add-append t [] ys = refl
-add-append t (x ∷ xs) ys = by_result (add_word t x) (λ u. add-append u xs ys) where
-  by_result : (r : Result Taken CnfCode) → ((u : Taken) → add_words u (xs ++ ys) ≡ then_words (add_words u xs) (λ v. add_words v ys))
-      → then_words r (λ u. add_words u (xs ++ ys)) ≡ then_words (then_words r (λ u. add_words u xs)) (λ v. add_words v ys)
-  by_result (Ok u) ih = ih u
-  by_result (Err c) ih = refl
-
-goes_words : (t : Taken) (ws : List (List ℕ)) → begins_end ws ≡ false → body_words t ws ≡ moves (add_words t ws)
-unfolding add_words
-goes_words t [] e = refl
-goes_words t (w ∷ ws) e = rw e refl
-
-body_go : (k : ℕ) (t : Taken) (body tail : List (List ℕ)) (u : Taken) → AllByRecursion (λ l. begins_end (line_words l) ≡ false) body → add_words t (flat_map line_words body) ≡ Ok u → (n : ℕ) × (read_body k t (body ++ tail) ≡ read_body n u tail)
-unfolding read_body add_words
-body_go k t [] tail u going e = let same : t ≡ u = cc in (k, ap (λ v. read_body k v tail) same)
-body_go k t (l ∷ body) tail u going e = by_result (add_words t (line_words l)) refl (sym (add-append t (line_words l) (flat_map line_words body)) ∙ e) (λ v e. body_go (k + 1) v body tail u going.1 e) where
-  by_result : (r : Result Taken CnfCode) → add_words t (line_words l) ≡ r → then_words r (λ v. add_words v (flat_map line_words body)) ≡ Ok u
-      → ((v : Taken) → add_words v (flat_map line_words body) ≡ Ok u → (n : ℕ) × (read_body (k + 1) v (body ++ tail) ≡ read_body n u tail)) → (n : ℕ) × (after_move (body_line t l) t k (λ v. read_body (k + 1) v (body ++ tail)) ≡ read_body n u tail)
-  by_result (Ok v) is e ih =
-      let next = ih v e in
-      let move : body_line t l ≡ Goes v = line_is t l ∙ goes_words t (line_words l) going.0 ∙ ap moves is in
-      (next.0, ap (λ m. after_move m t k (λ v. read_body (k + 1) v (body ++ tail))) move ∙ next.1)
-  by_result (Err c) is e ih = absurd cc
-
-begins_ends : (t : Taken) (ws : List (List ℕ)) → begins_end ws ≡ true → body_words t ws ≡ Ends
-begins_ends t [] e = absurd cc
-begins_ends t (w ∷ ws) e = rw e refl
-
-end_go : (n : ℕ) (u : Taken) (tail : List (List ℕ)) → u.begun ≡ [] → (tail ≡ []) ⊎ ((l : List ℕ) × (ls : List (List ℕ)) × (tail ≡ l ∷ ls) × (begins_end (line_words l) ≡ true)) → read_body n u tail ≡ Ok (record { vars = u.vars; clauses = u.clauses })
-unfolding read_body
-end_go n u tail none (inl e) = rw e (rw none refl)
-end_go n u tail none (inr e) = rw e.2 (ap (λ m. after_move m u n (λ v. read_body (n + 1) v e.1)) (line_is u e.0 ∙ begins_ends u (line_words e.0) e.3) ∙ whole_ok) where
-  whole_ok : whole u n ≡ Ok (record { vars = u.vars; clauses = u.clauses })
-  whole_ok = rw none refl
-
-head_go : (k : ℕ) (front : List (List ℕ)) (head : List ℕ) (rest : List (List ℕ)) (d : ℕ) → AllByRecursion (λ l. line_words l ≡ []) front → header_words (line_words head) ≡ Ok d → (n : ℕ) × (read_lines k (front ++ head ∷ rest) ≡ read_body n (begin d) rest)
-head_go k [] head rest d silent header = (k + 1, head_line_is k head rest ∙ by_words (line_words head) header) where
-  by_words : (ws : List (List ℕ)) → header_words ws ≡ Ok d → head_words ws k (read_lines (k + 1) rest) (λ t. read_body (k + 1) t rest) ≡ read_body (k + 1) (begin d) rest
-  by_words [] e = absurd cc
-  by_words (w ∷ ws) e = ap (λ r. begin_body r k (λ t. read_body (k + 1) t rest)) e
-head_go k (l ∷ front) head rest d silent header =
-    let next = head_go (k + 1) front head rest d silent.1 header in
-    (next.0, head_line_is k l (front ++ head ∷ rest) ∙ ap (λ ws. head_words ws k (read_lines (k + 1) (front ++ head ∷ rest)) (λ t. read_body (k + 1) t (front ++ head ∷ rest))) silent.0 ∙ next.1)
-
-pub cnf_is_read : (bytes : List ℕ) (v : Cnf) → IsCnf v bytes → read_cnf bytes ≡ Ok v
-unfolding read_cnf
-cnf_is_read bytes v h =
-    let u : Taken = record { vars = max h.declared (greatest_of v.clauses); clauses = v.clauses; begun = []; literals = 0 + literals_in v.clauses } in
-    let head = head_go 1 h.front h.head (h.body ++ h.tail) h.declared h.silent h.header in
-    let steps : add_words (begin h.declared) (flat_map line_words h.body) ≡ Ok u = all_steps (begin h.declared) v.clauses (flat_map line_words h.body) refl h.spelled h.proper h.small (omega (arith, h.literals)) (omega (arith, h.clauses)) in
-    let body = body_go head.0 (begin h.declared) h.body h.tail u h.going steps in
-    ap (read_lines 1) h.lines ∙ head.1 ∙ body.1 ∙ end_go body.0 u h.tail refl h.ending ∙ ap (λ (n : ℕ). Ok (record { vars = n; clauses = v.clauses })) (sym h.vars)

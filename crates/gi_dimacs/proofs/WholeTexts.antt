@@ -10,16 +10,18 @@ use Rattle.gi_dimacs.specs.declared.fault.CnfCode.{CnfCode}
 use Rattle.gi_dimacs.specs.declared.fault.CnfCode.TheVariants.{Header, Unterminated}
 use Rattle.gi_dimacs.specs.declared.fault.CnfFault.{CnfFault}
 use Rattle.gi_dimacs.specs.declared.words.Taken.{Taken}
-use Rattle.gi_dimacs.specs.declared.cnf.Cnf.{Cnf}
-use Rattle.gi_dimacs.specs.declared.machine.Head.{Head}
-use Rattle.gi_dimacs.specs.declared.machine.Head.TheVariants as heads
+use Rattle.gi_dimacs.specs.declared.content.Format.{Format}
+use Rattle.gi_dimacs.specs.declared.content.Format.TheVariants as formats
+use Rattle.gi_dimacs.specs.declared.head.Head.{Head}
+use Rattle.gi_dimacs.specs.declared.head.Head.TheVariants as heads
 use Rattle.gi_dimacs.specs.declared.machine.Phase.{Phase}
-use Rattle.gi_dimacs.specs.declared.machine.Phase.TheVariants.{Before, Body, Ended, Failed}
+use Rattle.gi_dimacs.specs.declared.machine.Phase.TheVariants.{Before, Body, Ask, Asked, Ended, Failed}
 use Rattle.gi_dimacs.specs.declared.machine.Spot.{Spot}
 use Rattle.gi_dimacs.specs.declared.machine.Spot.TheVariants.{Start, Comment, First, Later}
 use Rattle.gi_dimacs.specs.declared.machine.Machine.{Machine}
-use Rattle.gi_dimacs.specs.Cnf.{is_comment, Move, Goes, Ends, Stops, body_line, whole, after_move, read_body, begin_body, head_words, header_words, read_lines, read_cnf}
-use Rattle.gi_dimacs.specs.Machine.{begin, start, head_step, end_phase, word_ends, word_by_phase, after_head, line_ends, go_inside, inside, is_over, is_start, in_comment, byte_in_line, take_byte, answer_of, answer_now, last_line, answer, run}
+use Rattle.gi_dimacs.specs.Content.{File, format_of, nothing}
+use Rattle.gi_dimacs.specs.Files.{begin, is_comment, Move, Goes, Ends, Stops, body_line, whole, after_move, read_body, begin_body, head_words, header_words, read_lines, read_file}
+use Rattle.gi_dimacs.specs.Machine.{start, head_step, end_phase, word_ends, word_by_phase, after_head, line_ends, go_inside, inside, is_over, is_start, in_comment, byte_in_line, take_byte, answer_of, answer_now, last_line, answer, run}
 use Rattle.gi_dimacs.proofs.Splitting.{IsPlain, line_of, split}
 use Rattle.gi_dimacs.proofs.InLines.{at, eats, plain_head, over_stays, first_spot, line_from_start}
 use Rattle.gi_dimacs.proofs.Runs.{MoveDone, body_done, head_of, head_ends, head_eats, end_over}
@@ -37,6 +39,8 @@ lf_ends : (a : Global) (k : ℕ) (p : Phase) (sp : Spot) (w : List ℕ) (t : Tak
 unfolding take_byte line_ends word_ends
 lf_ends a k (Before h) sp w t = refl
 lf_ends a k Body sp w t = refl
+lf_ends a k Ask sp w t = refl
+lf_ends a k Asked sp w t = refl
 lf_ends a k Ended sp w t = sym (ap line_ends (same_cond (length w == 0) (at a k Ended sp w t)))
 lf_ends a k (Failed c) sp w t = sym (ap line_ends (same_cond (length w == 0) (at a k (Failed c) sp w t)))
 
@@ -100,29 +104,27 @@ pub last_answer : (s : Machine) (x : ℕ) (l : List ℕ) → is_over s.phase ≡
 unfolding answer
 last_answer s x l o plain = rw (leaves_start s x l o plain) refl
 
-over_answer : (a : Global) (k : ℕ) (p : Phase) (t : Taken) (more : List ℕ) → is_over p ≡ true → answer (run (line_ends (at a k p Later [] t)) more) ≡ answer_of p k t
+over_answer : (a : Global) (k : ℕ) (p : Phase) (t : Taken) (more : List ℕ) → is_over p ≡ true → answer (run (at a k p Later [] t) more) ≡ answer_of p k t
 unfolding answer line_ends word_ends
 over_answer a k (Before h) t more o = absurd cc
 over_answer a k Body t more o = absurd cc
+over_answer a k Ask t more o = absurd cc
+over_answer a k Asked t more o = absurd cc
 over_answer a k Ended t more o = ap answer (over_stays (at a k Ended Later [] t) more refl)
 over_answer a k (Failed c) t more o = ap answer (over_stays (at a k (Failed c) Later [] t) more refl)
 
 ended_answer : (k : ℕ) (t : Taken) → answer_of (end_phase t.begun) k t ≡ whole t k
 ended_answer k t = by_test (length t.begun == 0) where
-  by_test : (b : Bool) → answer_of (cond b Ended (Failed Unterminated)) k t ≡ cond b (Ok (record { vars = t.vars; clauses = t.clauses })) (Err (record { line = k; code = Unterminated }))
+  by_test : (b : Bool) → answer_of (cond b Ended (Failed Unterminated)) k t ≡ cond b (Ok (record { vars = t.vars; content = t.content })) (Err (record { line = k; code = Unterminated }))
   by_test true = refl
   by_test false = refl
 
-body_line_end : (a : Global) (k : ℕ) (sp : Spot) (t : Taken) → line_ends (at a k Body sp [] t) ≡ at a (k + 1) Body Start [] t
-unfolding line_ends
-body_line_end a k sp t = refl
-
 -- one line of the body, and what comes behind it
-by_move : (a : Global) (k : ℕ) (t : Taken) (m : Move) (s : Machine) (more : List ℕ) (next : Taken → Result Cnf CnfFault) → MoveDone a k t m s
+by_move : (a : Global) (k : ℕ) (t : Taken) (m : Move) (s : Machine) (more : List ℕ) (next : Taken → Result File CnfFault) → MoveDone a k t m s
     → ((u : Taken) → answer (run (at a (k + 1) Body Start [] u) more) ≡ next u) → answer (run (line_ends s) more) ≡ after_move m t k next
-by_move a k t (Goes u) s more next d ih = ap (λ x. answer (run (line_ends x) more)) d.1 ∙ ap (λ x. answer (run x more)) (body_line_end a k d.0 u) ∙ ih u
-by_move a k t Ends s more next d ih = ap (λ x. answer (run (line_ends x) more)) d ∙ over_answer a k (end_phase t.begun) t more (end_over t.begun) ∙ ended_answer k t
-by_move a k t (Stops c) s more next d ih = ap (λ x. answer (run (line_ends x) more)) d.1 ∙ over_answer a k (Failed c) d.0 more refl
+by_move a k t (Goes u) s more next d ih = ap (λ x. answer (run x more)) d ∙ ih u
+by_move a k t Ends s more next d ih = ap (λ x. answer (run x more)) d ∙ over_answer a k (end_phase t.begun) t more (end_over t.begun) ∙ ended_answer k t
+by_move a k t (Stops c) s more next d ih = ap (λ x. answer (run x more)) d.1 ∙ over_answer a k (Failed c) d.0 more refl
 
 body_now : (a : Global) (k : ℕ) (t : Taken) → answer (run (at a k Body Start [] t) []) ≡ whole t k
 unfolding answer run
@@ -132,18 +134,11 @@ now_is : (a : Global) (k : ℕ) (p : Phase) (t : Taken) → answer (at a k p Sta
 unfolding answer
 now_is a k p t = refl
 
-over_now : (a : Global) (k : ℕ) (p : Phase) (t : Taken) → is_over p ≡ true → answer_now (line_ends (at a k p Later [] t)) ≡ answer_of p k t
-unfolding line_ends
-over_now a k (Before h) t o = absurd cc
-over_now a k Body t o = absurd cc
-over_now a k Ended t o = refl
-over_now a k (Failed c) t o = refl
-
 -- the last line of a body, which lacks its LF
 last_move : (a : Global) (k : ℕ) (t : Taken) (m : Move) (s : Machine) → MoveDone a k t m s → answer_now (line_ends s) ≡ after_move m t k (λ u. whole u (k + 1))
-last_move a k t (Goes u) s d = ap (λ x. answer_now (line_ends x)) d.1 ∙ ap answer_now (body_line_end a k d.0 u)
-last_move a k t Ends s d = ap (λ x. answer_now (line_ends x)) d ∙ over_now a k (end_phase t.begun) t (end_over t.begun) ∙ ended_answer k t
-last_move a k t (Stops c) s d = ap (λ x. answer_now (line_ends x)) d.1 ∙ over_now a k (Failed c) d.0 refl
+last_move a k t (Goes u) s d = ap answer_now d
+last_move a k t Ends s d = ap answer_now d ∙ ended_answer k t
+last_move a k t (Stops c) s d = ap answer_now d.1
 
 pub reads_body : (a : Global) (k : ℕ) (t : Taken) (ls : List (List ℕ)) (last : List ℕ) → AllByRecursion IsPlain ls → IsPlain last
     → answer (run (at a k Body Start [] t) (text_of ls ++ last)) ≡ read_body k t (ls ++ line_of last)
@@ -164,29 +159,28 @@ silent_end : (a : Global) (k : ℕ) (sp : Spot) (t : Taken) → line_ends (at a 
 unfolding line_ends
 silent_end a k sp t = refl
 
-by_head : (a : Global) (k : ℕ) (p : Phase) (t : Taken) (r : Result ℕ CnfCode) (more : List ℕ) (next : Taken → Result Cnf CnfFault)
-    → ((v : ℕ) → answer (run (at a (k + 1) Body Start [] (begin v)) more) ≡ next (begin v)) → answer (run (after_head r (at a k p Later [] t)) more) ≡ begin_body r k next
-unfolding answer line_ends word_ends
+by_head : (a : Global) (k : ℕ) (p : Phase) (t : Taken) (r : Result ℕ CnfCode) (more : List ℕ) (next : Taken → Result File CnfFault)
+    → ((v : ℕ) → answer (run (at a (k + 1) Body Start [] (begin (format_of t.content) v)) more) ≡ next (begin (format_of t.content) v)) → answer (run (after_head r (at a k p Later [] t)) more) ≡ begin_body (format_of t.content) r k next
 by_head a k p t (Ok v) more next ih = ih v
-by_head a k p t (Err c) more next ih = ap answer (over_stays (at a k (Failed c) Later [] t) more refl) ∙ over_now a k (Failed c) t refl
+by_head a k p t (Err c) more next ih = over_answer a k (Failed c) t more refl
 
-head_now : (a : Global) (k : ℕ) (p : Phase) (t : Taken) (r : Result ℕ CnfCode) → answer_now (after_head r (at a k p Later [] t)) ≡ begin_body r k (λ u. whole u (k + 1))
+head_now : (a : Global) (k : ℕ) (p : Phase) (t : Taken) (r : Result ℕ CnfCode) → answer_now (after_head r (at a k p Later [] t)) ≡ begin_body (format_of t.content) r k (λ u. whole u (k + 1))
 head_now a k p t (Ok v) = refl
 head_now a k p t (Err c) = refl
 
 -- a line before the header, or the header's, as something looks at what comes behind it
-looks : (a : Global) (k : ℕ) (t : Taken) (l : List ℕ) (look : Machine → Result Cnf CnfFault) (silent : Result Cnf CnfFault) (next : Taken → Result Cnf CnfFault)
+looks : (a : Global) (k : ℕ) (t : Taken) (l : List ℕ) (look : Machine → Result File CnfFault) (silent : Result File CnfFault) (next : Taken → Result File CnfFault)
     → ((sp : Spot) → look (line_ends (at a k (Before heads.Nothing) sp [] t)) ≡ silent)
-    → ((p : Phase) (r : Result ℕ CnfCode) → look (after_head r (at a k p Later [] t)) ≡ begin_body r k next)
-    → look (line_ends (cond (is_comment l) (at a k (Before heads.Nothing) Comment [] t) (eats (at a k (Before heads.Nothing) (first_spot l) [] t) (words_of l)))) ≡ cond (is_comment l) silent (head_words (words_of l) k silent next)
+    → ((p : Phase) (r : Result ℕ CnfCode) → look (after_head r (at a k p Later [] t)) ≡ begin_body (format_of t.content) r k next)
+    → look (line_ends (cond (is_comment l) (at a k (Before heads.Nothing) Comment [] t) (eats (at a k (Before heads.Nothing) (first_spot l) [] t) (words_of l)))) ≡ cond (is_comment l) silent (head_words (format_of t.content) (words_of l) k silent next)
 unfolding first_spot words_from
 looks a k t [] look silent next on_silent on_head = on_silent Start
 looks a k t (x ∷ l) look silent next on_silent on_head = by_test (x == 99) where
-  by_words : (ws : List (List ℕ)) → look (line_ends (eats (at a k (Before heads.Nothing) First [] t) ws)) ≡ head_words ws k silent next
+  by_words : (ws : List (List ℕ)) → look (line_ends (eats (at a k (Before heads.Nothing) First [] t) ws)) ≡ head_words (format_of t.content) ws k silent next
   by_words [] = on_silent First
-  by_words (w ∷ ws) = ap look (head_ends a k t w ws) ∙ on_head (Before (head_of heads.Nothing (w ∷ ws))) (header_words (w ∷ ws))
+  by_words (w ∷ ws) = ap look (head_ends a k t w ws) ∙ on_head (Before (head_of (format_of t.content) heads.Nothing (w ∷ ws))) (header_words (format_of t.content) (w ∷ ws))
 
-  by_test : (b : Bool) → look (line_ends (cond b (at a k (Before heads.Nothing) Comment [] t) (eats (at a k (Before heads.Nothing) First [] t) (words_of (x ∷ l))))) ≡ cond b silent (head_words (words_of (x ∷ l)) k silent next)
+  by_test : (b : Bool) → look (line_ends (cond b (at a k (Before heads.Nothing) Comment [] t) (eats (at a k (Before heads.Nothing) First [] t) (words_of (x ∷ l))))) ≡ cond b silent (head_words (format_of t.content) (words_of (x ∷ l)) k silent next)
   by_test true = on_silent Comment
   by_test false = by_words (words_of (x ∷ l))
 
@@ -195,7 +189,7 @@ unfolding answer run
 none_now a k t = refl
 
 pub reads_lines : (a : Global) (k : ℕ) (t : Taken) (ls : List (List ℕ)) (last : List ℕ) → AllByRecursion IsPlain ls → IsPlain last
-    → answer (run (at a k (Before heads.Nothing) Start [] t) (text_of ls ++ last)) ≡ read_lines k (ls ++ line_of last)
+    → answer (run (at a k (Before heads.Nothing) Start [] t) (text_of ls ++ last)) ≡ read_lines (format_of t.content) k (ls ++ line_of last)
 unfolding read_lines read_body
 reads_lines a k t [] [] plain plain_last = none_now a k t
 reads_lines a k t [] (x ∷ l) plain plain_last =
@@ -206,12 +200,17 @@ reads_lines a k t (l ∷ ls) last plain plain_last =
     ap (λ xs. answer (run (at a k (Before heads.Nothing) Start [] t) xs)) (append_assoc (l ++ 10 ∷ []) (text_of ls) last)
     ∙ ap answer (run_line (at a k (Before heads.Nothing) Start [] t) l (text_of ls ++ last))
     ∙ ap (λ s. answer (run (line_ends s) (text_of ls ++ last))) (line_from_start a k (Before heads.Nothing) t l refl plain.0)
-    ∙ looks a k t l (λ s. answer (run s (text_of ls ++ last))) (read_lines (k + 1) (ls ++ line_of last)) (λ u. read_body (k + 1) u (ls ++ line_of last))
+    ∙ looks a k t l (λ s. answer (run s (text_of ls ++ last))) (read_lines (format_of t.content) (k + 1) (ls ++ line_of last)) (λ u. read_body (k + 1) u (ls ++ line_of last))
     (λ sp. ap (λ s. answer (run s (text_of ls ++ last))) (silent_end a k sp t) ∙ reads_lines a (k + 1) t ls last plain.1 plain_last)
-    (λ p r. by_head a k p t r (text_of ls ++ last) (λ u. read_body (k + 1) u (ls ++ line_of last)) (λ v. reads_body a (k + 1) (begin v) ls last plain.1 plain_last))
+    (λ p r. by_head a k p t r (text_of ls ++ last) (λ u. read_body (k + 1) u (ls ++ line_of last)) (λ v. reads_body a (k + 1) (begin (format_of t.content) v) ls last plain.1 plain_last))
 
-pub reads_all : (a : Global) (bytes : List ℕ) → answer (run (start a) bytes) ≡ read_cnf bytes
-unfolding read_cnf
-reads_all a bytes =
+pub format_of-nothing : (f : Format) → format_of (nothing f) ≡ f
+format_of-nothing formats.Cnf = refl
+format_of-nothing formats.Icnf = refl
+
+pub reads_all : (a : Global) (f : Format) (bytes : List ℕ) → answer (run (start a f) bytes) ≡ read_file f bytes
+unfolding read_file
+reads_all a f bytes =
     let s = split bytes in
-    ap (λ xs. answer (run (start a) xs)) s.text ∙ reads_lines a 1 (begin 0) s.whole s.last s.plain s.plain_last ∙ ap (read_lines 1) (sym s.lines)
+    ap (λ xs. answer (run (start a f) xs)) s.text ∙ reads_lines a 1 (begin f 0) s.whole s.last s.plain s.plain_last
+    ∙ ap (λ g. read_lines g 1 (s.whole ++ line_of s.last)) (format_of-nothing f) ∙ ap (read_lines f 1) (sym s.lines)

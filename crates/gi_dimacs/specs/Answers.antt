@@ -1,27 +1,42 @@
 -- What a reader answers of all bytes that it was fed.
 use Rattle.std.specs.Prelude.{◌≡◌, ℕ, ◌≤◌, List, ◌++◌, length, take, Result, Ok, Err}
-use Rattle.gi_dimacs.specs.Lines.{lines_of, text_of}
 use Rattle.gi_dimacs.specs.declared.fault.CnfFault.{CnfFault}
-use Rattle.gi_dimacs.specs.declared.cnf.Cnf.{Cnf}
-use Rattle.gi_dimacs.specs.declared.reader.CnfRead.{CnfRead}
-use Rattle.gi_dimacs.specs.declared.reader.CnfRead.TheVariants as answers
-use Rattle.gi_dimacs.specs.Cnf.{read_cnf}
-use Rattle.gi_dimacs.specs.Relation.{IsCnf}
+use Rattle.gi_dimacs.specs.declared.content.Format.{Format}
+use Rattle.gi_dimacs.specs.declared.content.Format.TheVariants as formats
+use Rattle.gi_dimacs.specs.declared.reader.Outcome.{Outcome}
+use Rattle.gi_dimacs.specs.declared.reader.Outcome.TheVariants as outcomes
+use Rattle.gi_dimacs.specs.declared.readers.CnfRead.{CnfRead}
+use Rattle.gi_dimacs.specs.declared.readers.CnfRead.TheVariants as cnf
+use Rattle.gi_dimacs.specs.declared.readers.IcnfRead.{IcnfRead}
+use Rattle.gi_dimacs.specs.declared.readers.IcnfRead.TheVariants as icnf
+use Rattle.gi_dimacs.specs.Lines.{lines_of, text_of}
+use Rattle.gi_dimacs.specs.Content.{File, format_of}
+use Rattle.gi_dimacs.specs.Files.{read_file}
+use Rattle.gi_dimacs.specs.Relation.{IsFile, IsCnf, IsIcnf}
 
--- what a machine's answer is, unless memory ran out
-abbrev pub Tells : CnfRead → Result Cnf CnfFault → Type 0
-Tells (answers.Cnf cnf) read = read ≡ Ok cnf
-Tells (answers.Fault fault) read = read ≡ Err fault
-Tells answers.NoMemory read = Unit {0}
+-- what was read, unless memory ran out
+abbrev pub Tells : Outcome → Result File CnfFault → Type 0
+Tells (outcomes.File vars content) read = read ≡ Ok (record { vars = vars; content = content })
+Tells (outcomes.Fault fault) read = read ≡ Err fault
+Tells outcomes.NoMemory read = Unit {0}
+
+-- no value of the format has the bytes
+abbrev pub HasNone : Format → List ℕ → Type 0
+HasNone format bytes = (f : File) → format_of f.content ≡ format → IsFile f bytes → ⊥
 
 -- the bytes have this fault, and no value
-pub record IsCnfFault (f : CnfFault) (bytes : List ℕ) : Type 0 where
-  pub first : read_cnf bytes ≡ Err f
-  pub none : (v : Cnf) → IsCnf v bytes → ⊥
+pub record IsFault (format : Format) (fault : CnfFault) (bytes : List ℕ) : Type 0 where
+  pub first : read_file format bytes ≡ Err fault
+  pub none : HasNone format bytes
   -- a fault at a line of the input: no value has bytes that begin with the lines up to that one
-  pub stands : f.line ≤ length (lines_of bytes) → (more : List ℕ) (v : Cnf) → IsCnf v (text_of (take f.line (lines_of bytes)) ++ more) → ⊥
+  pub stands : fault.line ≤ length (lines_of bytes) → (more : List ℕ) → HasNone format (text_of (take fault.line (lines_of bytes)) ++ more)
 
-abbrev pub Answers : CnfRead → List ℕ → Type 0
-Answers (answers.Cnf cnf) bytes = IsCnf cnf bytes
-Answers (answers.Fault fault) bytes = IsCnfFault fault bytes
-Answers answers.NoMemory bytes = Unit {0}
+abbrev pub AnswersCnf : CnfRead → List ℕ → Type 0
+AnswersCnf (cnf.Cnf v) bytes = IsCnf v bytes
+AnswersCnf (cnf.Fault fault) bytes = IsFault formats.Cnf fault bytes
+AnswersCnf cnf.NoMemory bytes = Unit {0}
+
+abbrev pub AnswersIcnf : IcnfRead → List ℕ → Type 0
+AnswersIcnf (icnf.Icnf v) bytes = IsIcnf v bytes
+AnswersIcnf (icnf.Fault fault) bytes = IsFault formats.Icnf fault bytes
+AnswersIcnf icnf.NoMemory bytes = Unit {0}

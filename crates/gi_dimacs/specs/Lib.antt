@@ -1,6 +1,7 @@
 pub mod Lines
 pub mod Literals
-pub mod Cnf
+pub mod Content
+pub mod Files
 pub mod Adds
 pub mod Machine
 pub mod Reader

@@ -1,9 +1,10 @@
 -- What a reader of pieces has before it.
 use Rattle.std.specs.Prelude.{◌≡◌, ℕ, Bool, List, ◌++◌, Result}
 use Rattle.gi_dimacs.specs.declared.fault.CnfFault.{CnfFault}
-use Rattle.gi_dimacs.specs.declared.cnf.Cnf.{Cnf}
+use Rattle.gi_dimacs.specs.declared.content.Format.{Format}
 use Rattle.gi_dimacs.specs.declared.machine.Machine.{Machine}
-use Rattle.gi_dimacs.specs.Cnf.{read_cnf}
+use Rattle.gi_dimacs.specs.Content.{File}
+use Rattle.gi_dimacs.specs.Files.{read_file}
 use Rattle.gi_dimacs.specs.Machine.{run, answer}
 
 -- a reader: its machine, and whether memory has failed it
@@ -12,9 +13,9 @@ pub record Reading : Type 0 where
   pub broken : Bool
 
 -- what is read where so many more bytes come
-unfoldable pub reads : Reading → List ℕ → Result Cnf CnfFault
+unfoldable pub reads : Reading → List ℕ → Result File CnfFault
 reads r more = answer (run r.machine more)
 
--- the reader has been fed these bytes: whatever comes, they are read with it
-pub record HasRead (r : Reading) (bytes : List ℕ) : Type 0 where
-  pub each : (more : List ℕ) → reads r more ≡ read_cnf (bytes ++ more)
+-- the reader has been fed these bytes of a file: whatever comes, it is read behind them
+pub record HasRead (format : Format) (r : Reading) (bytes : List ℕ) : Type 0 where
+  pub each : (more : List ℕ) → reads r more ≡ read_file format (bytes ++ more)

@@ -1,4 +1,5 @@
 // What files say.
+use crate::items::Items;
 use gi_lit::Clauses;
 
 /// What a CNF file says.
@@ -8,4 +9,13 @@ pub struct Cnf {
     pub vars: u32,
     /// The clauses, in the file's order.
     pub clauses: Clauses,
+}
+
+/// What an iCNF file says.
+#[derive(Debug, Drop)]
+pub struct Icnf {
+    /// The greatest variable that a clause or an ask names, 0 if none does.
+    pub vars: u32,
+    /// The clauses and asks, in the file's order.
+    pub items: Items,
 }

@@ -1,7 +1,7 @@
-// Laws of the format.
+// Laws of the formats.
 ghost use Rattle.gi_dimacs.specs.Laws.{OneAnswer, FaultsStand, GoodValues};
 
-/// Each list of bytes has exactly one value or exactly one fault.
+/// In either format each list of bytes has exactly one value or exactly one fault.
 pub fn one_answer()
     ensures { OneAnswer }
 {}

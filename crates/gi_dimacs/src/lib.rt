@@ -1,20 +1,25 @@
-//! DIMACS CNF: an exact reader of pieces, and a writer.
+//! DIMACS CNF and iCNF: exact readers of pieces, and writers.
 #![tactic(auto)]
 
 mod cnf;
+mod content;
 mod fault;
+mod head;
+mod items;
 mod laws;
 mod machine;
 mod reader;
+mod readers;
 mod word;
 mod words;
 mod writing;
 
-pub use cnf::Cnf;
+pub use cnf::{Cnf, Icnf};
 pub use fault::{CnfCode, CnfFault};
+pub use items::{Item, Items};
 pub use laws::{faults_stand, good_values, one_answer};
-pub use reader::{CnfRead, CnfReader};
-pub use writing::write_cnf;
+pub use readers::{CnfRead, CnfReader, IcnfRead, IcnfReader};
+pub use writing::{write_cnf, write_icnf};
 
 #[cfg(test)]
 mod tests;

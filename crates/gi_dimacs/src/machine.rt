@@ -1,57 +1,62 @@
 // The machine over bytes.
-ghost use Rattle.std.specs.Prelude.{◌≡◌, ℕ, ◌+◌, [], min, None, Some, MatchOption, OnOk, IsTrue, ◌↔◌, slice_index};
+ghost use Rattle.std.specs.Prelude.{◌≡◌, ◌+◌, [], OnOk};
 ghost use Rattle.gi_dimacs.specs.declared.machine.Spot.TheVariants as spots;
+ghost use Rattle.gi_dimacs.specs.declared.machine.Phase.TheVariants as phases;
 ghost use Rattle.gi_text.specs.Words.{is_white};
-ghost use Rattle.gi_dimacs.specs.Cnf.{count_at};
-ghost use Rattle.gi_dimacs.specs.Machine.{start, head_step, head_counts, body_word, word_ends, after_head, line_ends, take_byte, inside, end_phase, is_first, is_start, in_comment, is_over, last_line};
+ghost use Rattle.gi_dimacs.specs.Content.{format_of};
+ghost use Rattle.gi_dimacs.specs.Files.{number_in, is_ask, is_end};
+ghost use Rattle.gi_dimacs.specs.Machine.{start, head_counts, body_word, after_ask, ask_phase, after_word, word_ends, after_head, line_ends, take_byte, inside, end_phase, is_first, is_start, in_comment, is_over, last_line};
 
+use crate::content::{Format, format_of};
 use crate::fault::CnfCode;
+use crate::head::{Head, check_head, read_head};
 use crate::word::Word;
-use crate::words::{Taken, magnitude, word_of_body};
-use gi_lit::{Clauses, Lits, MAX_VAR};
-use gi_text::{Number, read_number};
+use crate::words::{Asking, Taken, begin, word_of_ask, word_of_body};
+use gi_lit::Lits;
 use std::alloc::{AllocError, Global};
-
-/// What of a header was read.
-#[derive(Clone, Copy, Debug, PartialEq, Eq)]
-pub enum Head {
-    Nothing,
-    P,
-    Cnf,
-    Vars(u32),
-    Whole(u32, bool),
-    Bad,
-}
 
 #[derive(Clone, Copy, Debug, PartialEq, Eq)]
 pub enum Phase {
+    /// Up to the header's end.
     Before(Head),
+    /// Behind the header, and in no ask.
     Body,
+    /// In an ask, in front of its 0.
+    Ask,
+    /// Behind the 0 of an ask, in its line.
+    Asked,
+    /// A `%` ended the file.
     Ended,
+    /// The first fault was found.
     Failed(CnfCode),
 }
 
-/// Where in its line the machine is: at its start, in a comment, before the first word's end, behind it.
+/// Where in its line the machine is.
 #[derive(Clone, Copy, Debug, PartialEq, Eq)]
 pub enum Spot {
     Start,
     Comment,
+    /// In front of the first word's end.
     First,
+    /// Behind it.
     Later,
 }
 
+/// A machine over the bytes of a file of either format.
 #[derive(Drop)]
 pub struct Machine {
     pub alloc: Global,
+    /// The line that is read, from 1.
     pub line: u64,
     pub phase: Phase,
     pub spot: Spot,
+    /// The word that is read.
     pub word: Word,
     pub taken: Taken,
 }
 
-pub fn new_machine(alloc: Global) -> Machine
-    ensures { result ≡ start alloc }
+pub fn new_machine(alloc: Global, format: Format) -> Machine
+    ensures { result ≡ start alloc format }
 {
     Machine {
         alloc,
@@ -59,86 +64,7 @@ pub fn new_machine(alloc: Global) -> Machine
         phase: Phase::Before(Head::Nothing),
         spot: Spot::Start,
         word: Word::new(alloc),
-        taken: begin(alloc, 0),
-    }
-}
-
-fn begin(alloc: Global, vars: u32) -> Taken
-    ensures { result ≡ record { vars = vars; clauses = []; begun = []; literals = 0 } }
-{
-    Taken {
-        vars,
-        clauses: Clauses::new(alloc),
-        begun: Lits::new(alloc),
-        literals: 0,
-    }
-}
-
-// A word of the header's line.
-fn read_head(head: Head, word: &[u8]) -> Head
-    ensures { result ≡ head_step head word.now }
-{
-    match head {
-        Head::Nothing => {
-            if word == b"p".as_slice() {
-                Head::P
-            } else {
-                Head::Bad
-            }
-        }
-        Head::P => {
-            if word == b"cnf".as_slice() {
-                Head::Cnf
-            } else {
-                Head::Bad
-            }
-        }
-        Head::Cnf => match count_of(word) {
-            Some(v) => Head::Vars(v.min(u64::from(MAX_VAR) + 1) as u32),
-            None => Head::Bad,
-        },
-        Head::Vars(v) => match count_of(word) {
-            Some(c) => Head::Whole(v, c <= 4_294_967_295),
-            None => Head::Bad,
-        },
-        Head::Whole(_, _) => Head::Bad,
-        Head::Bad => Head::Bad,
-    }
-}
-
-// A number from 0 up, to a cap.
-fn count_of(word: &[u8]) -> Option<u64>
-    ensures { MatchOption result (count_at word.now ≡ None) (λ m. (n : ℕ) × (count_at word.now ≡ Some n) × (m ≡ min n 4294967296)) }
-{
-    if begins_minus(word) {
-        return None;
-    }
-    match read_number(word) {
-        Number::NotNumber => None,
-        Number::TooBig => Some(4_294_967_296),
-        Number::Value(z) => Some(u64::from(magnitude(z))),
-    }
-}
-
-fn begins_minus(word: &[u8]) -> bool
-    ensures { IsTrue result ↔ (slice_index word.now 0 ≡ 45) }
-{
-    !word.is_empty() && word[0] == b'-'
-}
-
-// What the header's line says: its variables.
-fn check_head(head: Head) -> Result<u32, CnfCode>
-    ensures { result ≡ head_counts head }
-{
-    match head {
-        Head::Whole(vars, small) => {
-            if vars > MAX_VAR || !small {
-                Err(CnfCode::Limit)
-            } else {
-                Ok(vars)
-            }
-        }
-        _ => Err(CnfCode::Header),
+        taken: begin(alloc, format, 0),
     }
 }
 
@@ -147,24 +73,66 @@ fn check_head(head: Head) -> Result<u32, CnfCode>
 fn end_body_word(m: &mut Machine) -> Result<(), AllocError>
     ensures { OnOk result (m.new ≡ body_word m.old) }
 {
-    if is_first(m.spot) && m.word.as_slice() == b"%".as_slice() {
-        m.phase = end_of(&m.taken.begun);
-        m.word.clear();
-        m.spot = Spot::Later;
+    if is_first(m.spot) && is_end(m.word.as_slice()) {
+        let phase = end_of(&m.taken.begun);
+        pass_word(m, phase);
+        return Ok(());
+    }
+    if is_first(m.spot) && is_ask(format_in(m), m.word.as_slice()) {
+        let phase = ask_of(&m.taken.begun);
+        pass_word(m, phase);
         return Ok(());
     }
     match word_of_body(&mut m.taken, m.alloc, m.word.as_slice())? {
-        Some(code) => {
-            m.phase = Phase::Failed(code);
-            m.word.clear();
-            m.spot = Spot::Later;
-            Ok(())
-        }
+        Some(code) => pass_word(m, Phase::Failed(code)),
         None => {
-            m.word.clear();
-            m.spot = Spot::Later;
-            Ok(())
+            let phase = m.phase;
+            pass_word(m, phase);
         }
+    }
+    Ok(())
+}
+
+// A word of an ask has ended.
+fn end_ask_word(m: &mut Machine) -> Result<(), AllocError>
+    ensures { OnOk result (m.new ≡ after_ask (number_in m.old.word) m.old) }
+{
+    match word_of_ask(&mut m.taken, m.alloc, m.word.as_slice())? {
+        Asking::Goes => pass_word(m, Phase::Ask),
+        Asking::Ends => pass_word(m, Phase::Asked),
+        Asking::Stops(code) => pass_word(m, Phase::Failed(code)),
+    }
+    Ok(())
+}
+
+// The machine goes on behind the word.
+fn pass_word(m: &mut Machine, phase: Phase)
+    ensures { m.new ≡ after_word m.old phase m.old.taken }
+{
+    m.phase = phase;
+    m.word.clear();
+    m.spot = Spot::Later;
+}
+
+// The file's format.
+fn format_in(m: &Machine) -> Format
+    ensures { result ≡ format_of m.now.taken.content }
+{
+    format_of(&m.taken.content)
+}
+
+fn is_end(word: &[u8]) -> bool
+    ensures { result ≡ is_end word.now }
+{
+    word == b"%".as_slice()
+}
+
+fn is_ask(format: Format, word: &[u8]) -> bool
+    ensures { result ≡ is_ask format word.now }
+{
+    match format {
+        Format::Cnf => false,
+        Format::Icnf => word == b"a".as_slice(),
     }
 }
 
@@ -174,6 +142,17 @@ fn end_of(begun: &Lits) -> Phase
 {
     if begun.as_slice().is_empty() {
         Phase::Ended
+    } else {
+        Phase::Failed(CnfCode::Unterminated)
+    }
+}
+
+// An `a` begins an ask.
+fn ask_of(begun: &Lits) -> Phase
+    ensures { result ≡ ask_phase begun.now }
+{
+    if begun.as_slice().is_empty() {
+        Phase::Ask
     } else {
         Phase::Failed(CnfCode::Unterminated)
     }
@@ -220,6 +199,8 @@ fn is_over(phase: Phase) -> bool
         Phase::Failed(_) => true,
         Phase::Before(_) => false,
         Phase::Body => false,
+        Phase::Ask => false,
+        Phase::Asked => false,
     }
 }
 
@@ -239,12 +220,17 @@ fn end_word(m: &mut Machine) -> Result<(), AllocError>
     }
     match m.phase {
         Phase::Before(head) => {
-            m.phase = Phase::Before(read_head(head, m.word.as_slice()));
-            m.word.clear();
-            m.spot = Spot::Later;
+            let format = format_in(m);
+            let head = read_head(format, head, m.word.as_slice());
+            pass_word(m, Phase::Before(head));
             Ok(())
         }
         Phase::Body => end_body_word(m),
+        Phase::Ask => end_ask_word(m),
+        Phase::Asked => {
+            pass_word(m, Phase::Failed(CnfCode::Word));
+            Ok(())
+        }
         Phase::Ended => Ok(()),
         Phase::Failed(_) => Ok(()),
     }
@@ -259,6 +245,14 @@ fn end_line(m: &mut Machine) -> Result<(), AllocError>
         Phase::Before(Head::Nothing) => next_line(m),
         Phase::Body => next_line(m),
         Phase::Before(head) => end_head(m, head),
+        Phase::Ask => {
+            m.phase = Phase::Failed(CnfCode::Unterminated);
+            Ok(())
+        }
+        Phase::Asked => {
+            m.phase = Phase::Body;
+            next_line(m)
+        }
         Phase::Ended => Ok(()),
         Phase::Failed(_) => Ok(()),
     }
@@ -271,7 +265,7 @@ fn end_head(m: &mut Machine, head: Head) -> Result<(), AllocError>
     match check_head(head) {
         Ok(vars) => {
             m.phase = Phase::Body;
-            m.taken = begin(m.alloc, vars);
+            m.taken = begin(m.alloc, format_in(m), vars);
             next_line(m)
         }
         Err(code) => {

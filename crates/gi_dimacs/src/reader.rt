@@ -1,31 +1,33 @@
-// The reader.
+// A reader of pieces, of either format.
 ghost use Rattle.std.specs.Prelude.{◌≡◌, ◌++◌, [], ℕ, List, OnOk, OnErr, true, false};
+ghost use Rattle.gi_dimacs.specs.declared.content.Format.{Format};
+ghost use Rattle.gi_dimacs.specs.Files.{read_file, whole};
 ghost use Rattle.gi_dimacs.specs.Machine.{run, answer, answer_of};
-ghost use Rattle.gi_dimacs.specs.Answers.{Answers, Tells};
-ghost use Rattle.gi_dimacs.specs.declared.reader.CnfRead.TheVariants as fails;
+ghost use Rattle.gi_dimacs.specs.Answers.{Tells};
+ghost use Rattle.gi_dimacs.specs.declared.reader.Outcome.TheVariants as outcomes;
 
-use crate::cnf::Cnf;
+use crate::content::{Content, Format};
 use crate::fault::{CnfCode, CnfFault};
 use crate::machine::{Machine, Phase, end_last, new_machine, take};
 use crate::words::Taken;
 use std::alloc::{AllocError, Global};
 use std::marker::Model;
 
+/// What a reader answers at the end of its input.
 #[derive(Drop)]
-pub enum CnfRead {
-    Cnf(Cnf),
+pub enum Outcome {
+    File { vars: u32, content: Content },
     Fault(CnfFault),
     NoMemory,
 }
 
-/// A reader of pieces.
 #[derive(Drop)]
-pub struct CnfReader {
+pub struct Reader {
     machine: Machine,
     broken: bool,
 }
 
-impl Model for CnfReader {
+impl Model for Reader {
     ghost use Rattle.gi_dimacs.specs.Reader.{Reading};
 
     ghost Value = { Reading };
@@ -33,23 +35,23 @@ impl Model for CnfReader {
     ghost view = { λ r. record { machine = r.machine; broken = r.broken } };
 }
 
-impl CnfReader {
+impl Reader {
     ghost use Rattle.gi_dimacs.specs.Reader.{HasRead};
 
     /// A reader that was fed nothing. Takes no memory.
-    pub fn new(alloc: Global) -> CnfReader
-        ensures nothing { HasRead result [] }
+    pub fn new(alloc: Global, format: Format) -> Reader
+        ensures nothing { HasRead format result [] }
         ensures sound { result.broken ≡ false }
     {
-        CnfReader {
-            machine: new_machine(alloc),
+        Reader {
+            machine: new_machine(alloc, format),
             broken: false,
         }
     }
 
     /// Takes the next piece, cut anywhere. After an error the reader is broken, whatever else it is fed.
     pub fn feed(&mut self, piece: &[u8]) -> Result<(), AllocError>
-        ensures ok { OnOk result ((bytes : List ℕ) → HasRead self.old bytes → HasRead self.new (bytes ++ piece.now)) }
+        ensures ok { OnOk result ((format : Format) (bytes : List ℕ) → HasRead format self.old bytes → HasRead format self.new (bytes ++ piece.now)) }
         ensures sound { OnOk result (self.new.broken ≡ self.old.broken) }
         ensures err { OnErr result (self.new.broken ≡ true) }
     {
@@ -62,14 +64,13 @@ impl CnfReader {
         }
     }
 
-    /// The input has ended. `Cnf` is its value and `Fault` its fault, by all bytes that were fed. `NoMemory`
-    /// comes where a `feed` answered an error; else it is want of memory here.
-    pub fn finish(self) -> CnfRead
-        ensures read { (bytes : List ℕ) → HasRead self bytes → Answers result bytes }
-        ensures broken { self.broken ≡ true → result ≡ fails.NoMemory }
+    /// The input has ended.
+    pub fn finish(self) -> Outcome
+        ensures read { (format : Format) (bytes : List ℕ) → HasRead format self bytes → Tells result (read_file format bytes) }
+        ensures broken { self.broken ≡ true → result ≡ outcomes.NoMemory }
     {
         if self.broken {
-            return CnfRead::NoMemory;
+            return Outcome::NoMemory;
         }
         read_off(self.machine)
     }
@@ -87,38 +88,47 @@ fn take_all(machine: &mut Machine, piece: &[u8]) -> Result<(), AllocError>
 }
 
 // What was read.
-fn answer_of(phase: Phase, line: u64, taken: Taken) -> CnfRead
+fn answer_of(phase: Phase, line: u64, taken: Taken) -> Outcome
     ensures { Tells result (answer_of phase line taken) }
 {
     match phase {
         Phase::Before(_) => fault(line, CnfCode::Header),
         Phase::Failed(code) => fault(line, code),
-        Phase::Ended => CnfRead::Cnf(Cnf {
-            vars: taken.vars,
-            clauses: taken.clauses,
-        }),
-        Phase::Body => {
-            if taken.begun.as_slice().is_empty() {
-                CnfRead::Cnf(Cnf {
-                    vars: taken.vars,
-                    clauses: taken.clauses,
-                })
-            } else {
-                fault(line, CnfCode::Unterminated)
-            }
-        }
+        Phase::Ask => fault(line, CnfCode::Unterminated),
+        Phase::Ended => file(taken),
+        Phase::Body => file_if_whole(line, taken),
+        Phase::Asked => file_if_whole(line, taken),
     }
 }
 
-fn fault(line: u64, code: CnfCode) -> CnfRead
-    ensures { result ≡ fails.Fault (record { line = line; code = code }) }
+fn file_if_whole(line: u64, taken: Taken) -> Outcome
+    ensures { Tells result (whole taken line) }
 {
-    CnfRead::Fault(CnfFault { line, code })
+    if taken.begun.as_slice().is_empty() {
+        file(taken)
+    } else {
+        fault(line, CnfCode::Unterminated)
+    }
+}
+
+fn file(taken: Taken) -> Outcome
+    ensures { result ≡ outcomes.File taken.vars taken.content }
+{
+    Outcome::File {
+        vars: taken.vars,
+        content: taken.content,
+    }
+}
+
+fn fault(line: u64, code: CnfCode) -> Outcome
+    ensures { result ≡ outcomes.Fault (record { line = line; code = code }) }
+{
+    Outcome::Fault(CnfFault { line, code })
 }
 
 // What a machine read, at the end of the input.
 #[tactic(auto, unfolding(crate::specs::Machine::answer))]
-fn read_off(machine: Machine) -> CnfRead
+fn read_off(machine: Machine) -> Outcome
     ensures { Tells result (answer machine) }
 {
     let mut machine = machine;
@@ -134,6 +144,6 @@ fn read_off(machine: Machine) -> CnfRead
             } = machine;
             answer_of(phase, line, taken)
         }
-        Err(_) => CnfRead::NoMemory,
+        Err(_) => Outcome::NoMemory,
     }
 }

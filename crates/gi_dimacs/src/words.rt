@@ -1,12 +1,13 @@
 // What the words of a body give.
-ghost use Rattle.std.specs.Prelude.{◌≡◌, ◌≢◌, ◌≤◌, ◌<◌, [], ℤ, pos, IfOk, OnOk, Ok, Err};
-ghost use Rattle.gi_lit.specs.Literals.{literal_of};
+ghost use Rattle.std.specs.Prelude.{◌≡◌, ◌≢◌, ◌≤◌, ◌<◌, ◌+◌, ◌++◌, ◌∷◌, max, [], ℤ, pos, IfOk, OnOk, Ok, Err};
 ghost use Rattle.gi_text.specs.Numbers.{size_of};
-ghost use Rattle.gi_dimacs.specs.Cnf.{closed, with_literal, add_number, begins_number, add_word};
-ghost use Rattle.gi_dimacs.specs.Adds.{Gives};
+ghost use Rattle.gi_lit.specs.Literals.{literal_of};
+ghost use Rattle.gi_dimacs.specs.Files.{begin, closed, asked, with_literal, with_assumption, begins_number, number_in, add_number, add_word};
+ghost use Rattle.gi_dimacs.specs.Adds.{Gives, GivesAsk, Is};
 
+use crate::content::{Content, Format, add_ask, add_clause, nothing};
 use crate::fault::CnfCode;
-use gi_lit::{Clauses, Lit, Lits, MAX_VAR};
+use gi_lit::{Lit, Lits, MAX_VAR};
 use gi_text::{Number, read_number};
 use std::alloc::{AllocError, Global};
 use std::mem;
@@ -16,37 +17,73 @@ use std::mem;
 pub struct Taken {
     /// The greatest variable so far, that of the header included.
     pub vars: u32,
-    /// The clauses that have ended.
-    pub clauses: Clauses,
-    /// The literals of the clause that is open.
+    /// The clauses and asks that have ended.
+    pub content: Content,
+    /// How many clauses have ended.
+    pub ended: u32,
+    /// The literals of the clause, or of the ask, that is open.
     pub begun: Lits,
-    /// The literals of all clauses, the open one included.
+    /// How many literals the clauses have, the open one included.
     pub literals: u32,
 }
 
-const MAX_CLAUSES: usize = 4_194_304;
+const MAX_CLAUSES: u32 = 4_194_304;
 
 const MAX_LITERALS: u32 = 67_108_864;
 
-// The clause that is begun ends.
+const MAX_ASSUMPTIONS: usize = 1_048_576;
+
+/// Nothing but a header's variables.
+pub fn begin(alloc: Global, format: Format, vars: u32) -> Taken
+    ensures { result ≡ begin format vars }
+{
+    Taken {
+        vars,
+        content: nothing(alloc, format),
+        ended: 0,
+        begun: Lits::new(alloc),
+        literals: 0,
+    }
+}
+
+// The open clause ends.
 fn close(taken: &mut Taken, alloc: Global) -> Result<(), AllocError>
+    requires { taken.old.ended < 4194304 }
     ensures { OnOk result (taken.new ≡ closed taken.old) }
 {
     let begun = mem::replace(&mut taken.begun, Lits::new(alloc));
-    taken.clauses.push(begun)?;
+    add_clause(&mut taken.content, begun)?;
+    taken.ended += 1;
     Ok(())
 }
 
-// A literal goes to the clause that is begun.
+// The ask ends.
+fn close_ask(taken: &mut Taken, alloc: Global) -> Result<(), AllocError>
+    ensures { OnOk result (taken.new ≡ asked taken.old) }
+{
+    let begun = mem::replace(&mut taken.begun, Lits::new(alloc));
+    add_ask(&mut taken.content, begun)
+}
+
+// A literal goes to what is open.
+fn begin_literal(taken: &mut Taken, z: i64) -> Result<(), AllocError>
+    requires some { z ≢ pos 0 }
+    requires small { size_of z ≤ 1048576 }
+    ensures { OnOk result (taken.new ≡ with_assumption taken.old z) }
+{
+    let lit = literal(z);
+    taken.vars = taken.vars.max(magnitude(z));
+    taken.begun.push(lit)
+}
+
+// A literal goes to the open clause.
 fn add_literal(taken: &mut Taken, z: i64) -> Result<(), AllocError>
     requires some { z ≢ pos 0 }
     requires small { size_of z ≤ 1048576 }
     requires room { taken.old.literals < 67108864 }
     ensures { OnOk result (taken.new ≡ with_literal taken.old z) }
 {
-    let lit = literal(z);
-    taken.vars = taken.vars.max(magnitude(z));
-    taken.begun.push(lit)?;
+    begin_literal(taken, z)?;
     taken.literals += 1;
     Ok(())
 }
@@ -63,7 +100,7 @@ fn literal(z: i64) -> Lit
     }
 }
 
-// How great a number is.
+/// How great a number is.
 pub fn magnitude(z: i64) -> u32
     requires { size_of z ≤ 4294967295 }
     ensures { result ≡ size_of z }
@@ -71,13 +108,13 @@ pub fn magnitude(z: i64) -> u32
     if z < 0 { -z as u32 } else { z as u32 }
 }
 
-// A number of the body.
+// A number of a clause.
 fn number(taken: &mut Taken, alloc: Global, z: i64) -> Result<Option<CnfCode>, AllocError>
     requires { size_of z ≤ 1048576 }
     ensures { IfOk result (λ code. Gives code (add_number taken.old z) taken.old taken.new) }
 {
     if z == 0 {
-        if taken.clauses.len() >= MAX_CLAUSES {
+        if taken.ended >= MAX_CLAUSES {
             return Ok(Some(CnfCode::Limit));
         }
         close(taken, alloc)?;
@@ -99,8 +136,28 @@ fn is_begun_as_number(word: &[u8]) -> bool
     }
 }
 
-/// A word of the body.
-#[tactic(auto, unfolding(crate::specs::Cnf::add_word))]
+// The number that a word is, within the variables.
+#[tactic(auto, unfolding(crate::specs::Files::number_in))]
+fn word_number(word: &[u8]) -> Result<i64, CnfCode>
+    ensures { Is result (number_in word.now) }
+{
+    if !is_begun_as_number(word) {
+        return Err(CnfCode::Word);
+    }
+    match read_number(word) {
+        Number::NotNumber => Err(CnfCode::Number),
+        Number::TooBig => Err(CnfCode::Limit),
+        Number::Value(z) => {
+            if magnitude(z) > MAX_VAR {
+                return Err(CnfCode::Limit);
+            }
+            Ok(z)
+        }
+    }
+}
+
+/// A word of the clauses.
+#[tactic(auto, unfolding(crate::specs::Files::add_word))]
 pub fn word_of_body(
     taken: &mut Taken,
     alloc: Global,
@@ -108,17 +165,36 @@ pub fn word_of_body(
 ) -> Result<Option<CnfCode>, AllocError>
     ensures { IfOk result (λ code. Gives code (add_word taken.old word.now) taken.old taken.new) }
 {
-    if !is_begun_as_number(word) {
-        return Ok(Some(CnfCode::Word));
+    match word_number(word) {
+        Ok(z) => number(taken, alloc, z),
+        Err(code) => Ok(Some(code)),
     }
-    match read_number(word) {
-        Number::NotNumber => Ok(Some(CnfCode::Number)),
-        Number::TooBig => Ok(Some(CnfCode::Limit)),
-        Number::Value(z) => {
-            if magnitude(z) > MAX_VAR {
-                return Ok(Some(CnfCode::Limit));
+}
+
+/// What a word of an ask did.
+#[derive(Clone, Copy, Debug, PartialEq, Eq)]
+pub enum Asking {
+    Goes,
+    Ends,
+    Stops(CnfCode),
+}
+
+/// A word of an ask, in front of its 0.
+pub fn word_of_ask(taken: &mut Taken, alloc: Global, word: &[u8]) -> Result<Asking, AllocError>
+    ensures { IfOk result (λ asking. GivesAsk asking (number_in word.now) taken.old taken.new) }
+{
+    match word_number(word) {
+        Err(code) => Ok(Asking::Stops(code)),
+        Ok(0) => {
+            close_ask(taken, alloc)?;
+            Ok(Asking::Ends)
+        }
+        Ok(z) => {
+            if taken.begun.len() >= MAX_ASSUMPTIONS {
+                return Ok(Asking::Stops(CnfCode::Limit));
             }
-            number(taken, alloc, z)
+            begin_literal(taken, z)?;
+            Ok(Asking::Goes)
         }
     }
 }

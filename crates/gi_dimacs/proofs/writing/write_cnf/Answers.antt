@@ -1,7 +1,7 @@
 use Rattle.std.proofs.Common.{subst, sym, ◌∙◌, ◌≡◌}
 use Rattle.gi_dimacs.specs.Relation.{IsCnf}
-use Rattle.gi_dimacs.specs.Texts.{cnf_text}
-use Rattle.gi_dimacs.proofs.Ends.{text_is_cnf, text_again}
+use Rattle.gi_dimacs.proofs.Texts.{text_is_cnf}
+use Rattle.gi_dimacs.proofs.Ends.{cnf_again}
 use Rattle.gi_dimacs.proofs.writing.write_cnf.Goals as goal
 
 pub returns-clause-read : goal.returns-clause-read
@@ -9,4 +9,4 @@ returns-clause-read c = λ good. subst (λ bytes. IsCnf c.args.cnf.now bytes) (s
 
 pub returns-clause-again : goal.returns-clause-again
 returns-clause-again c = λ good v is.
-    text_again c.args.cnf.now v good (subst (λ bytes. IsCnf v bytes) c.in_ok-bytes.ensures is) ∙ sym c.in_ok-bytes.ensures
+    cnf_again c.args.cnf.now v good (subst (λ bytes. IsCnf v bytes) c.in_ok-bytes.ensures is) ∙ sym c.in_ok-bytes.ensures

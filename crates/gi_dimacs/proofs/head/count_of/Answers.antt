@@ -1,9 +1,9 @@
 use Rattle.std.proofs.Common.{◌≡◌, ℕ, None, Some, min, ap, sym, ◌∙◌, arith}
 use Rattle.std.proofs.lemmas.Int.{ints, to_z-of_z}
 use Rattle.gi_text.specs.Numbers.{size_of}
-use Rattle.gi_dimacs.specs.Cnf.{count_at}
+use Rattle.gi_dimacs.specs.Files.{count_at}
 use Rattle.gi_dimacs.proofs.Counting.{count_at-minus, count_at-plain}
-use Rattle.gi_dimacs.proofs.machine.count_of.Goals as goal
+use Rattle.gi_dimacs.proofs.head.count_of.Goals as goal
 
 pub returns-then-begins_minus : goal.returns-then-begins_minus
 returns-then-begins_minus c = count_at-minus c.args.word.now (c.begins_minus.ensures.0 c.if-begins_minus.true)

@@ -1,0 +1,14 @@
+use Rattle.std.proofs.Common.{subst, sym}
+use Rattle.gi_dimacs.specs.declared.content.Format.TheVariants as formats
+use Rattle.gi_dimacs.specs.Reader.{HasRead}
+use Rattle.gi_dimacs.proofs.Ends.{told_cnf, is_fault}
+use Rattle.gi_dimacs.proofs.readers.CnfReader.finish.Goals as goal
+
+pub returns-in-File-default-Clauses-clause-read : goal.returns-in-File-default-Clauses-clause-read
+returns-in-File-default-Clauses-clause-read c = λ bytes has.
+    told_cnf bytes c.in-File-default-Clauses.vars c.in-File-default-Clauses.content c.in-File-default-Clauses.clauses c.in-File-default-Clauses.content-is
+    (c.in-File-default-Clauses.ensures.read formats.Cnf bytes (subst (λ r. HasRead formats.Cnf r bytes) (sym c.self.view_is) has))
+
+pub returns-in-Fault-clause-read : goal.returns-in-Fault-clause-read
+returns-in-Fault-clause-read c = λ bytes has.
+    is_fault formats.Cnf bytes c.in-Fault.fault (c.in-Fault.ensures.read formats.Cnf bytes (subst (λ r. HasRead formats.Cnf r bytes) (sym c.self.view_is) has))
