@@ -232,7 +232,7 @@ fn end_word(m: &mut Machine) -> Result<(), AllocError>
             Ok(())
         }
         Phase::Ended => Ok(()),
-        Phase::Failed(_) => Ok(()),
+        Phase::Failed(_) => Ok(()), // the first fault decides
     }
 }
 

@@ -77,6 +77,7 @@ impl CnfReader {
                 vars,
                 content: Content::Clauses(clauses),
             } => CnfRead::Cnf(Cnf { vars, clauses }),
+            // Never: a reader of this format keeps clauses.
             Outcome::File {
                 vars: _,
                 content: Content::Items(_),
@@ -134,6 +135,7 @@ impl IcnfReader {
                 vars,
                 content: Content::Items(items),
             } => IcnfRead::Icnf(Icnf { vars, items }),
+            // Never: a reader of this format keeps items.
             Outcome::File {
                 vars: _,
                 content: Content::Clauses(_),

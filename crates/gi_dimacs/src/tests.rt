@@ -47,7 +47,7 @@ cnf|p cnf 007 0003|p cnf 7 0/
 cnf|p cnf 1048576 0|p cnf 1048576 0/
 cnf|p cnf 1048577 0|Limit 1
 cnf|p cnf 99999999999999999999 0|Limit 1
-cnf|p cnf 1 4294967295|p cnf 1 0/
+cnf|p cnf 1048576 4294967295|p cnf 1048576 0/
 cnf|p cnf 1 4294967296|Limit 1
 cnf|p cnf 1048577 x|Header 1
 cnf|p cnf -99999999999 1|Header 1
@@ -192,44 +192,31 @@ fn reads_the_table(rt: HostRuntime) -> Result<(), Fail> {
     Ok(())
 }
 
-// The reader of a header and so many pieces of 1024 words.
-fn fed(alloc: Global, header: &[u8], word: &[u8], pieces: u32) -> Result<IcnfReader, Fail> {
+// An ask of so many times 1024 literals and of what stands behind them, at line 2.
+fn long_ask(alloc: Global, pieces: u32, rest: &[u8]) -> Result<IcnfRead, Fail> {
     let mut reader = IcnfReader::new(alloc);
-    reader.feed(header)?;
+    reader.feed(b"p inccnf\na ")?;
     let mut piece = Vec::new(alloc);
     for _ in 0..1024 {
-        piece.extend_from_slice(word)?;
+        piece.extend_from_slice(b"7 ")?;
     }
     for _ in 0..pieces {
         reader.feed(piece.as_slice())?;
     }
-    Ok(reader)
+    reader.feed(rest)?;
+    Ok(reader.finish())
 }
 
 #[test]
-fn counts_have_limits(rt: HostRuntime) -> Result<(), Fail> {
+fn an_ask_has_a_limit(rt: HostRuntime) -> Result<(), Fail> {
     let alloc = rt.alloc();
-    match fed(alloc, b"p inccnf\n", b"0 ", 4096)?.finish() {
-        IcnfRead::Icnf(icnf) => assert_eq!(rt; icnf.items.len(), 4_194_304),
-        _ => panic!(rt; "too many clauses"),
-    }
-    let mut reader = fed(alloc, b"p inccnf\n", b"0 ", 4096)?;
-    reader.feed(b"0")?;
-    match reader.finish() {
-        IcnfRead::Fault(fault) => assert_eq!(rt; (fault.line, fault.code), (2, CnfCode::Limit)),
-        _ => panic!(rt; "no fault"),
-    }
-    let mut reader = fed(alloc, b"p inccnf\na ", b"-7 ", 1024)?;
-    reader.feed(b"0")?;
-    match reader.finish() {
+    match long_ask(alloc, 1024, b"0")? {
         IcnfRead::Icnf(icnf) => assert_eq!(rt; (icnf.vars, icnf.items.len()), (7, 1)),
-        _ => panic!(rt; "too many assumptions"),
+        _ => panic!(rt; "1,048,576 assumptions are too many"),
     }
-    let mut reader = fed(alloc, b"p inccnf\na ", b"-7 ", 1024)?;
-    reader.feed(b"7 0")?;
-    match reader.finish() {
+    match long_ask(alloc, 1024, b"7 0")? {
         IcnfRead::Fault(fault) => assert_eq!(rt; (fault.line, fault.code), (2, CnfCode::Limit)),
-        _ => panic!(rt; "no fault"),
+        _ => panic!(rt; "1,048,577 assumptions are taken"),
     }
     Ok(())
 }
