@@ -6,3 +6,5 @@ mod Removing
 mod Sizes
 mod Kept
 mod Reading
+mod Resting
+mod Editing

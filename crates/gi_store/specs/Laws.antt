@@ -1,7 +1,8 @@
--- The law on guards, with no word on how a pair is kept.
-use Rattle.std.specs.Prelude.{◌≡◌, ℕ, ◌+◌, ◌*◌, ◌/◌, ◌≤◌, List, All, Contains, ◌⊎◌}
+-- The laws: what the edits of a store are, and the law on guards, with no word on how a pair is kept.
+use Rattle.std.specs.Prelude.{◌≡◌, ℕ, ◌+◌, ◌*◌, ◌/◌, ◌≤◌, List, [], ◌∷◌, ◌++◌, length, map, drop, All, Contains, ◌⊎◌}
 use Rattle.gi_lit.specs.Literals.{IsSubsetOf}
-use Rattle.gi_lit.specs.Problem.{Problem, full, force, IsWellFormed}
+use Rattle.gi_lit.specs.Problem.{Problem, full, force, with_guard, without_guard, without_var, IsWellFormed}
+use Rattle.gi_store.specs.Held.{Entry, Held, problem_of, known_of, entries, with_plain, with_under, with_learnt, with_new_guard, without_guard_of, trimmed}
 
 -- the literal is the negative one of an active guard that is given
 pub record IsGiven (p : Problem) (given : List ℕ) (l : ℕ) : Type 0 where
@@ -38,3 +39,26 @@ pub record RestsOnGuards (p : Problem) (given : List ℕ) : Type 0 where
 
 abbrev pub ProblemsRestOnGuards : Type 0
 ProblemsRestOnGuards = (p : Problem) (given : List ℕ) → IsWellFormed p → RestsOnGuards p given
+
+-- what the edits of a store are to its problem and its learnt clauses
+abbrev pub PlainIsAdded : Type 0
+PlainIsAdded = (key : ℕ) (c : List ℕ) (h : Held) → problem_of (with_plain key c h) ≡ record (problem_of h) { plain = (problem_of h).plain ++ c ∷ [] }
+
+abbrev pub PairIsAdded : Type 0
+PairIsAdded = (key guard : ℕ) (c : List ℕ) (h : Held) → problem_of (with_under key guard c h) ≡ record (problem_of h) { pairs = (problem_of h).pairs ++ record { guard = guard; clause = c } ∷ [] }
+
+abbrev pub LearntIsAdded : Type 0
+LearntIsAdded = (key : ℕ) (c : List ℕ) (h : Held) → known_of (with_learnt key c h) ≡ known_of h ++ c ∷ []
+
+abbrev pub GuardIsMade : Type 0
+GuardIsMade = (h : Held) → problem_of (with_new_guard h) ≡ with_guard (problem_of h)
+
+abbrev pub GuardIsDropped : Type 0
+GuardIsDropped = (g : ℕ) (h : Held) → (problem_of (without_guard_of g h) ≡ without_guard g (problem_of h)) × (known_of (without_guard_of g h) ≡ without_var g (known_of h))
+
+abbrev pub OldestAreDropped : Type 0
+OldestAreDropped = (h : Held) → known_of (trimmed h) ≡ drop (length (known_of h) / 2) (known_of h)
+
+-- what is stored is the full clauses of the problem and the learnt ones, in order
+abbrev pub EntriesAreClauses : Type 0
+EntriesAreClauses = (h : Held) → map (λ (e : Entry). e.lits) (entries h) ≡ full (problem_of h) ++ known_of h

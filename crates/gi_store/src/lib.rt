@@ -4,12 +4,14 @@
 mod guards;
 mod key;
 mod kind;
+mod laws;
 mod new_guard;
 mod slots;
 mod store;
 
 pub use key::Key;
 pub use kind::VarKind;
+pub use laws::{edits_are_of_the_problem, problems_rest_on_guards};
 pub use new_guard::NewGuard;
 pub use store::Store;
 
