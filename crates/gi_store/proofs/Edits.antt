@@ -9,7 +9,7 @@ use Rattle.gi_lit.specs.Problem.{Problem, Pair, IsProblemVar, IsPlain, IsWellFor
 use Rattle.gi_lit.proofs.Vars.{IsVar, var_facts, var_from}
 use Rattle.gi_lit.proofs.Growing.{Grows, grows_grown, grows_guard, IsWellFormed-grown, IsWellFormed-guard}
 use Rattle.gi_lit.proofs.Dropping.{IsWellFormed-dropped}
-use Rattle.gi_lit.proofs.Distinct.{filter-has}
+use Rattle.gi_lit.proofs.Distinct.{filter-has, IsDistinct-apart}
 use Rattle.slab.proofs.SlabLemmas.{Contains-cons, Contains-cons_cases}
 use Rattle.gi_store.specs.Held.{Entry, PairEntry, Held, problem_of, known_of, full_entry, entries, keys_of, Holds, IsLive, IsWithin, Keeps, with_plain, with_under, with_learnt, with_new_guard, without_guard_of, trimmed}
 use Rattle.gi_store.specs.Whole.{IsWhole, IsKind, IsTable}
@@ -223,3 +223,10 @@ module _ (h : Held) (w : IsWhole h) where
 -- the older learnt clauses go
 pub whole_trimmed : (h : Held) → IsWhole h → IsWhole (trimmed h)
 whole_trimmed h w = record { well_formed = w.well_formed; limit = w.limit; known = rw (← drop-map lits_of (length h.learnt / 2) h.learnt) (All-drop (IsWithin h.vars) (length h.learnt / 2) (known_of h) w.known) }
+
+-- what is of another kind is no active guard
+pub not_active : (h : Held) → IsWhole h → (v : ℕ) (k : VarKind) → IsKind h v k → (k ≡ kind.Active → ⊥) → ¬ Contains h.active v
+not_active h w v kind.Problem x n m = let f = var_facts (problem_of h) v x in f.inactive m
+not_active h w v kind.Active x n m = n refl
+not_active h w v kind.Freed x n m = IsDistinct-apart h.freed h.active v w.well_formed.distinct x m
+not_active h w v kind.Beyond x n m = let b = All-contains (λ g. g ≤ h.vars) (h.freed ++ h.active) v w.well_formed.high (Contains-append_right h.freed h.active v m) in omega (arith, x, b)

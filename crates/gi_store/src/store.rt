@@ -1,5 +1,5 @@
-ghost use Rattle.std.specs.Prelude.{◌≡◌, ◌≤◌, ◌<◌, ◌+◌, ◌/◌, ℕ, List, [], ◌∷◌, ◌++◌, length, max, All, Contains, IfOk, OnOk, OnErr, option_copied};
-ghost use Rattle.gi_lit.specs.Problem.{IsPlain, without_guard, without_var, with_guard, grown};
+ghost use Rattle.std.specs.Prelude.{◌≡◌, ◌≤◌, ◌<◌, ◌+◌, ◌/◌, ℕ, List, [], ◌∷◌, ◌++◌, length, max, All, Contains, IfOk, OnOk, OnErr, IsTrue, ◌↔◌, option_copied};
+ghost use Rattle.gi_lit.specs.Problem.{IsPlain, IsProblemVar};
 ghost use Rattle.gi_store.specs.Held.{Held, Keeps, IsLive, Holds, IsWithin, problem_of, known_of, keys_of, entries, with_plain, with_under, with_learnt, without_guard_of, trimmed, at_place};
 ghost use Rattle.gi_store.specs.Whole.{IsWhole, IsKind};
 ghost use Rattle.gi_lit.specs.Lists.{IsDistinct};
@@ -160,6 +160,45 @@ impl Store {
             Some(kind) => *kind,
             None => VarKind::Beyond,
         }
+    }
+
+    /// Whether it is a variable of the problem.
+    pub fn is_problem_var(&self, v: Var) -> bool
+        ensures { IsTrue result ↔ IsProblemVar (problem_of self.now) v }
+    {
+        matches!(self.kind(v), VarKind::Problem)
+    }
+
+    /// Whether it is an active guard.
+    pub fn is_active(&self, v: Var) -> bool
+        ensures { IsTrue result ↔ Contains self.now.active v }
+    {
+        let _ = &self.active;
+        matches!(self.kind(v), VarKind::Active)
+    }
+
+    /// Whether each literal is of a variable of the problem.
+    pub fn is_plain(&self, c: &[Lit]) -> bool
+        ensures { IsTrue result ↔ IsPlain (problem_of self.now) c.now }
+    {
+        for l in c {
+            if !self.is_problem_var(l.var()) {
+                return false;
+            }
+        }
+        true
+    }
+
+    /// Whether each literal's variable is within the count.
+    pub fn is_within(&self, c: &[Lit]) -> bool
+        ensures { IsTrue result ↔ IsWithin self.now.vars c.now }
+    {
+        for l in c {
+            if l.var().index() > self.vars() {
+                return false;
+            }
+        }
+        true
     }
 
     /// The count of variables.
