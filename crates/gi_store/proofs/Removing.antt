@@ -5,7 +5,7 @@ use Rattle.std.specs.Option.{IsSome, unwrap_or}
 use Rattle.std.proofs.lemmas.Bool.{eqb-true, false_from_ne_true, both_ways, not_from_false, not-true}
 use Rattle.std.proofs.lemmas.List.{map-append, drop-map, reverse-append, take-append-drop, length-map}
 use Rattle.std.proofs.lemmas.List.Folds.{list_any_at, Any-from_list_any, list_any-append}
-use Rattle.std.proofs.lemmas.List.Elements.{All-contains, Contains-append_left, Contains-append_right, Contains-append_cases}
+use Rattle.std.proofs.lemmas.List.Elements.{All-contains, Contains-append_left, Contains-append_right, Contains-append_cases, Contains-push}
 use Rattle.slab.specs.Slab.{Slab, get}
 use Rattle.slab.proofs.SlabLemmas.{Contains-cons, Contains-cons_cases}
 use Rattle.gi_lit.specs.Lists.{IsDistinct}
@@ -197,3 +197,20 @@ keeps_under k g c h = keeps_more h (with_under k g c h) (λ e m. elim (Contains-
       | inr b ↦ Contains-append_right (map full_entry (h.pairs ++ record { key = k; guard = g; clause = c } ∷ [])) h.learnt e b
     ])
 ])
+
+-- the key of the clause that was added is in use
+abbrev key_in : Entry → ℕ
+key_in e = e.key
+
+pub live_plain : (k : ℕ) (c : List ℕ) (h : Held) → IsLive (with_plain k c h) k
+live_plain k c h = let e : Entry = record { key = k; lits = c } in
+    Contains-map key_in (entries (with_plain k c h)) e (Contains-append_left (h.plain ++ e ∷ []) (map full_entry h.pairs ++ h.learnt) e (Contains-push h.plain e))
+
+pub live_learnt : (k : ℕ) (c : List ℕ) (h : Held) → IsLive (with_learnt k c h) k
+live_learnt k c h = let e : Entry = record { key = k; lits = c } in
+    Contains-map key_in (entries (with_learnt k c h)) e (Contains-append_right h.plain (map full_entry h.pairs ++ (h.learnt ++ e ∷ [])) e (Contains-append_right (map full_entry h.pairs) (h.learnt ++ e ∷ []) e (Contains-push h.learnt e)))
+
+pub live_under : (k g : ℕ) (c : List ℕ) (h : Held) → IsLive (with_under k g c h) k
+live_under k g c h = let q : PairEntry = record { key = k; guard = g; clause = c } in
+    Contains-map key_in (entries (with_under k g c h)) (full_entry q) (Contains-append_right h.plain (map full_entry (h.pairs ++ q ∷ []) ++ h.learnt) (full_entry q)
+      (Contains-append_left (map full_entry (h.pairs ++ q ∷ [])) h.learnt (full_entry q) (Contains-map full_entry (h.pairs ++ q ∷ []) q (Contains-push h.pairs q))))

@@ -76,6 +76,7 @@ impl Store {
         requires { IsPlain (problem_of self.old) c.now }
         ensures ok { IfOk result (λ key. self.new ≡ with_plain key c.now self.old) }
         ensures fresh { IfOk result (λ key. ¬ IsLive self.old key) }
+        ensures live { IfOk result (λ key. IsLive self.new key) }
         ensures keeps { Keeps self.old self.new }
         ensures err { OnErr result (self.new ≡ self.old) }
     {
@@ -91,6 +92,7 @@ impl Store {
         requires plain { IsPlain (problem_of self.old) c.now }
         ensures ok { IfOk result (λ key. self.new ≡ with_under key guard c.now self.old) }
         ensures fresh { IfOk result (λ key. ¬ IsLive self.old key) }
+        ensures live { IfOk result (λ key. IsLive self.new key) }
         ensures keeps { Keeps self.old self.new }
         ensures err { OnErr result (self.new ≡ self.old) }
     {
@@ -106,6 +108,7 @@ impl Store {
         requires { IsWithin self.old.vars c.now }
         ensures ok { IfOk result (λ key. self.new ≡ with_learnt key c.now self.old) }
         ensures fresh { IfOk result (λ key. ¬ IsLive self.old key) }
+        ensures live { IfOk result (λ key. IsLive self.new key) }
         ensures keeps { Keeps self.old self.new }
         ensures err { OnErr result (self.new ≡ self.old) }
     {

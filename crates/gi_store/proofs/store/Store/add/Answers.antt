@@ -3,7 +3,7 @@ use Rattle.gi_store.specs.Held.{Held, problem_of, IsLive, Keeps, IsWithin, with_
 use Rattle.gi_lit.specs.Problem.{IsPlain}
 use Rattle.gi_store.proofs.Kept.{kept_plain, kept_same}
 use Rattle.gi_store.proofs.Views.{held_plain, was_free}
-use Rattle.gi_store.proofs.Removing.{keeps_plain}
+use Rattle.gi_store.proofs.Removing.{keeps_plain, live_plain}
 use Rattle.gi_store.proofs.store.Store.add.Goals as goal
 
 pub invariant_of-self : goal.invariant_of-self
@@ -24,3 +24,6 @@ returns-clause-fresh c = subst (λ h. ¬ IsLive h c.in_ok-key.key) c.self.view_i
 
 pub returns-clause-keeps : goal.returns-clause-keeps
 returns-clause-keeps c = subst (Keeps c.args.self.now) (sym (returns-clause-ok c)) (keeps_plain c.in_ok-key.key c.args.c.now c.args.self.now)
+
+pub returns-clause-live : goal.returns-clause-live
+returns-clause-live c = subst (λ (h : Held). IsLive h c.in_ok-key.key) (sym (returns-clause-ok c)) (live_plain c.in_ok-key.key c.args.c.now c.args.self.now)
