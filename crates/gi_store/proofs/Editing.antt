@@ -2,7 +2,7 @@
 use Rattle.std.proofs.Common.{◌≡◌, ℕ, ◌+◌, ◌*◌, ◌/◌, List, [], ◌∷◌, ◌++◌, length, map, drop, refl, sym, ap, ◌∙◌}
 use Rattle.std.proofs.lemmas.List.{map_push, map-append, drop-map, length-map, append_assoc}
 use Rattle.gi_lit.specs.Problem.{Problem, Pair, guarded, full, guard_made}
-use Rattle.gi_store.specs.Held.{Entry, PairEntry, Held, problem_of, known_of, full_entry, entries, with_plain, with_under, with_learnt, with_new_guard, trimmed}
+use Rattle.gi_store.specs.Held.{Entry, PairEntry, Held, problem_of, known_of, full_entry}
 use Rattle.gi_store.specs.Laws.{PlainIsAdded, PairIsAdded, LearntIsAdded, GuardIsMade, GuardIsDropped, OldestAreDropped, EntriesAreClauses}
 use Rattle.gi_store.proofs.Edits.{pair_in, problem_without, known_without}
 

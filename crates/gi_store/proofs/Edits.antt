@@ -1,21 +1,20 @@
 -- What a store keeps when it is edited.
-use Rattle.std.proofs.Common.{◌≡◌, ◌≢◌, ℕ, zero, suc, ◌+◌, ◌-◌, ◌*◌, ◌/◌, ◌<◌, ◌≤◌, ◌==◌, Bool, true, false, not, Option, Some, None, List, [], ◌∷◌, ◌++◌, length, take, drop, map, max, get_or, set, reverse, replicate, refl, sym, ap, ◌∙◌, subst, arith, ◌⊎◌, inl, inr, length-append, append_assoc, get_or-set_other, get_or-set_same, length-set}
-use Rattle.std.specs.List.{All, Contains, filter, list_any}
-use Rattle.std.proofs.lemmas.Bool.{cases_lt, cases_eq, both_ways, ne_eqb, eq-eqb, not_from_false, not-true, not_from_true}
-use Rattle.std.proofs.lemmas.List.{map_push, map-append, get_or_append_left, get_or_push, length-replicate, get_or_past, drop-map, reverse-append, get_or-append_right, get_or-replicate}
-use Rattle.std.proofs.lemmas.List.Elements.{All-push, All-weaker, All-filter, All-drop, All-contains, Contains-append_left, Contains-append_right, Contains-append_cases, Contains-push, Contains-push_cases}
-use Rattle.gi_lit.specs.Lists.{IsDistinct}
-use Rattle.gi_lit.specs.Problem.{Problem, Pair, IsProblemVar, IsPlain, IsWellFormed, names, without, without_pairs, without_var, without_guard, guard_made, with_guard, grown}
-use Rattle.gi_lit.proofs.Vars.{IsVar, var_facts, var_from}
-use Rattle.gi_lit.proofs.Growing.{Grows, grows_grown, grows_guard, IsWellFormed-grown, IsWellFormed-guard}
+use Rattle.std.proofs.Common.{◌≡◌, ℕ, ◌+◌, ◌-◌, ◌/◌, ◌<◌, ◌≤◌, ◌==◌, not, List, [], ◌∷◌, ◌++◌, length, map, max, get_or, set, replicate, refl, sym, ap, ◌∙◌, subst, arith, inl, inr, get_or-set_other, get_or-set_same}
+use Rattle.std.specs.List.{All, Contains}
+use Rattle.std.proofs.lemmas.Bool.{cases_lt, cases_eq, ne_eqb, not_from_false}
+use Rattle.std.proofs.lemmas.List.{map_push, get_or_append_left, get_or_push, drop-map, get_or-append_right, get_or-replicate}
+use Rattle.std.proofs.lemmas.List.Elements.{All-push, All-weaker, All-filter, All-drop, All-contains, Contains-append_left, Contains-append_right, Contains-push, Contains-push_cases}
+use Rattle.gi_lit.specs.Problem.{Problem, Pair, IsPlain, IsWellFormed, names, without, without_pairs, without_var, without_guard, guard_made}
+use Rattle.gi_lit.proofs.Vars.{var_facts, var_from}
+use Rattle.gi_lit.proofs.Growing.{grows_grown, IsWellFormed-grown, IsWellFormed-guard}
 use Rattle.gi_lit.proofs.Dropping.{IsWellFormed-dropped}
 use Rattle.gi_lit.proofs.Distinct.{filter-has, IsDistinct-apart}
 use Rattle.slab.proofs.SlabLemmas.{Contains-cons, Contains-cons_cases}
-use Rattle.gi_store.specs.Held.{Entry, PairEntry, Held, problem_of, known_of, full_entry, entries, keys_of, Holds, IsLive, IsWithin, Keeps, with_plain, with_under, with_learnt, with_new_guard, without_guard_of, trimmed}
+use Rattle.gi_store.specs.Held.{Entry, PairEntry, Held, problem_of, known_of, IsWithin, with_plain, with_under, with_learnt, with_new_guard, without_guard_of, trimmed}
 use Rattle.gi_store.specs.Whole.{IsWhole, IsKind, IsTable}
 use Rattle.gi_store.specs.declared.kind.VarKind.{VarKind}
 use Rattle.gi_store.specs.declared.kind.VarKind.TheVariants as kind
-use Rattle.gi_store.proofs.Lists.{filter_of_map, Contains-head, Contains-filter, Contains-map, Contains-unmap, Contains-drop}
+use Rattle.gi_store.proofs.Lists.{filter_of_map, Contains-head, Contains-filter}
 
 abbrev lits_of : Entry → List ℕ
 lits_of e = e.lits
@@ -85,13 +84,18 @@ module _ (h : Held) (w : IsWhole h) (n : ℕ) (limit : n ≤ 1048576) where
   whole_grown = record { well_formed = IsWellFormed-grown n (problem_of h) w.well_formed; limit = omega (arith, w.limit); known = known_more h.vars (max h.vars n) (omega arith) (known_of h) w.known }
 
   pub table_grown : (kinds : List VarKind) → length kinds ≡ h.vars → IsTable h kinds → IsTable (record h { vars = max h.vars n }) (kinds ++ replicate (n - h.vars) kind.Problem)
-  table_grown kinds len t = record { each = λ v low high. elim (cases_lt (v - 1) (length kinds)) [
-    | inl lt ↦ subst (IsKind (record h { vars = max h.vars n }) v) (sym (get_or_append_left kinds (replicate (n - h.vars) kind.Problem) kind.Problem (v - 1) lt)) (more v (omega (arith, len)) _ (t.each v low (omega (arith, len))))
-    | inr le ↦ subst (IsKind (record h { vars = max h.vars n }) v) (sym (get_or-append_right kinds (replicate (n - h.vars) kind.Problem) (length kinds) (v - 1) kind.Problem refl le ∙ get_or-replicate (n - h.vars) (v - 1 - length kinds) kind.Problem kind.Problem (omega (arith, len))))
-        (var_from (problem_of (record h { vars = max h.vars n })) v (record { low = low; high = high;
-          inactive = λ c. let b = guards_high v (Contains-append_right h.freed h.active v c) in omega (arith, len, b);
-          unfreed = λ c. let b = guards_high v (Contains-append_left h.freed h.active v c) in omega (arith, len, b) }))
-  ] }
+  table_grown kinds len t = record {
+    each = λ v low high. elim (cases_lt (v - 1) (length kinds)) [
+      | inl lt ↦ subst (IsKind (record h { vars = max h.vars n }) v) (sym (get_or_append_left kinds (replicate (n - h.vars) kind.Problem) kind.Problem (v - 1) lt)) (more v (omega (arith, len)) _ (t.each v low (omega (arith, len))))
+      | inr le ↦ subst (IsKind (record h { vars = max h.vars n }) v) (sym (get_or-append_right kinds (replicate (n - h.vars) kind.Problem) (length kinds) (v - 1) kind.Problem refl le ∙ get_or-replicate (n - h.vars) (v - 1 - length kinds) kind.Problem kind.Problem (omega (arith, len))))
+          (var_from (problem_of (record h { vars = max h.vars n })) v (record {
+            low = low;
+            high = high;
+            inactive = λ c. let b = guards_high v (Contains-append_right h.freed h.active v c) in omega (arith, len, b);
+            unfreed = λ c. let b = guards_high v (Contains-append_left h.freed h.active v c) in omega (arith, len, b);
+          }))
+    ];
+  }
     where
       guards_high : (v : ℕ) → Contains (h.freed ++ h.active) v → v ≤ h.vars
       guards_high v c = All-contains (λ g. g ≤ h.vars) (h.freed ++ h.active) v w.well_formed.high c
@@ -131,17 +135,22 @@ module _ (h : Held) (w : IsWhole h) (g : ℕ) (act : Contains h.active g) where
 
   pub table_without : (kinds : List VarKind) → length kinds ≡ h.vars → IsTable h kinds → IsTable (without_guard_of g h) (set kinds (g - 1) kind.Freed)
   unfolding without
-  table_without kinds len t = record { each = λ v low high. elim (cases_eq v g) [
-    | inl e ↦ subst (IsKind (without_guard_of g h) v) (sym (ap (λ i. get_or (set kinds (g - 1) kind.Freed) (i - 1) kind.Problem) e ∙ get_or-set_same kinds (g - 1) kind.Freed kind.Problem (omega (arith, len, g_low, g_high)))) (subst (Contains (g ∷ h.freed)) (sym e) (Contains-head g h.freed))
-    | inr n ↦ subst (IsKind (without_guard_of g h) v) (sym (get_or-set_other kinds (g - 1) (v - 1) kind.Freed kind.Problem (λ x. n (omega (arith, x, low, g_low))))) (other v n _ (t.each v low high))
-  ] }
+  table_without kinds len t = record {
+    each = λ v low high. elim (cases_eq v g) [
+      | inl e ↦ subst (IsKind (without_guard_of g h) v) (sym (ap (λ i. get_or (set kinds (g - 1) kind.Freed) (i - 1) kind.Problem) e ∙ get_or-set_same kinds (g - 1) kind.Freed kind.Problem (omega (arith, len, g_low, g_high)))) (subst (Contains (g ∷ h.freed)) (sym e) (Contains-head g h.freed))
+      | inr n ↦ subst (IsKind (without_guard_of g h) v) (sym (get_or-set_other kinds (g - 1) (v - 1) kind.Freed kind.Problem (λ x. n (omega (arith, x, low, g_low))))) (other v n _ (t.each v low high))
+    ];
+  }
     where
       other : (v : ℕ) → (v ≡ g → ⊥) → (k : VarKind) → IsKind h v k → IsKind (without_guard_of g h) v k
       other v n kind.Problem x =
           let f = var_facts (problem_of h) v x in
-          var_from (problem_of (without_guard_of g h)) v (record { low = f.low; high = f.high;
+          var_from (problem_of (without_guard_of g h)) v (record {
+            low = f.low;
+            high = f.high;
             inactive = λ c. let a = Contains-filter (λ y. not (y == g)) h.active v c in f.inactive a.0;
-            unfreed = λ c. elim (Contains-cons_cases g v h.freed c) [ inl e ↦ n (sym e) | inr r ↦ f.unfreed r ] })
+            unfreed = λ c. elim (Contains-cons_cases g v h.freed c) [ inl e ↦ n (sym e) | inr r ↦ f.unfreed r ];
+          })
       other v n kind.Active x = filter-has (λ y. not (y == g)) h.active v (not_from_false _ (ne_eqb v g n)) x
       other v n kind.Freed x = Contains-cons g v h.freed x
       other v n kind.Beyond x = x
@@ -175,18 +184,23 @@ module _ (h : Held) (w : IsWhole h) where
   next_held = record h { vars = h.vars + 1; active = h.active ++ (h.vars + 1) ∷ []; freed = [] }
 
   pub table_next : h.freed ≡ [] → (kinds : List VarKind) → length kinds ≡ h.vars → IsTable h kinds → IsTable next_held (kinds ++ kind.Active ∷ [])
-  table_next e kinds len t = record { each = λ v low high. elim (cases_lt (v - 1) (length kinds)) [
-    | inl lt ↦ subst (IsKind next_held v) (sym (get_or_append_left kinds (kind.Active ∷ []) kind.Problem (v - 1) lt)) (more v (omega (arith, len)) _ (t.each v low (omega (arith, len))))
-    | inr le ↦ subst (IsKind next_held v) (sym (get_or_push kinds kind.Active kind.Problem (v - 1) (omega (arith, len, high))))
-        (subst (Contains next_held.active) (let q : h.vars + 1 ≡ v = omega (arith, len, high) in q) (Contains-push h.active (h.vars + 1)))
-  ] }
+  table_next e kinds len t = record {
+    each = λ v low high. elim (cases_lt (v - 1) (length kinds)) [
+      | inl lt ↦ subst (IsKind next_held v) (sym (get_or_append_left kinds (kind.Active ∷ []) kind.Problem (v - 1) lt)) (more v (omega (arith, len)) _ (t.each v low (omega (arith, len))))
+      | inr le ↦ subst (IsKind next_held v) (sym (get_or_push kinds kind.Active kind.Problem (v - 1) (omega (arith, len, high))))
+          (subst (Contains next_held.active) (let q : h.vars + 1 ≡ v = omega (arith, len, high) in q) (Contains-push h.active (h.vars + 1)))
+    ];
+  }
     where
       more : (v : ℕ) → v ≤ h.vars → (k : VarKind) → IsKind h v k → IsKind next_held v k
       more v le kind.Problem x =
           let f = var_facts (problem_of h) v x in
-          var_from (problem_of next_held) v (record { low = f.low; high = omega (arith, f.high);
+          var_from (problem_of next_held) v (record {
+            low = f.low;
+            high = omega (arith, f.high);
             inactive = λ c. elim (Contains-push_cases h.active (h.vars + 1) v c) [ inl a ↦ f.inactive a | inr q ↦ omega arith ];
-            unfreed = λ c. omega (arith, c.1) })
+            unfreed = λ c. omega (arith, c.1);
+          })
       more v le kind.Active x = Contains-append_left h.active ((h.vars + 1) ∷ []) v x
       more v le kind.Freed x = rw e at x
       more v le kind.Beyond x = absurd (omega arith)
@@ -205,17 +219,22 @@ module _ (h : Held) (w : IsWhole h) where
     f_high = All-contains (λ x. x ≤ h.vars) (h.freed ++ h.active) g w.well_formed.high (Contains-append_left h.freed h.active g in_freed)
 
     pub table_again : (kinds : List VarKind) → length kinds ≡ h.vars → IsTable h kinds → IsTable again_held (set kinds (g - 1) kind.Active)
-    table_again kinds len t = record { each = λ v low high. elim (cases_eq v g) [
-      | inl q ↦ subst (IsKind again_held v) (sym (ap (λ i. get_or (set kinds (g - 1) kind.Active) (i - 1) kind.Problem) q ∙ get_or-set_same kinds (g - 1) kind.Active kind.Problem (omega (arith, len, f_low, f_high)))) (subst (Contains again_held.active) (sym q) (Contains-push h.active g))
-      | inr n ↦ subst (IsKind again_held v) (sym (get_or-set_other kinds (g - 1) (v - 1) kind.Active kind.Problem (λ x. n (omega (arith, x, low, f_low))))) (other v n _ (t.each v low high))
-    ] }
+    table_again kinds len t = record {
+      each = λ v low high. elim (cases_eq v g) [
+        | inl q ↦ subst (IsKind again_held v) (sym (ap (λ i. get_or (set kinds (g - 1) kind.Active) (i - 1) kind.Problem) q ∙ get_or-set_same kinds (g - 1) kind.Active kind.Problem (omega (arith, len, f_low, f_high)))) (subst (Contains again_held.active) (sym q) (Contains-push h.active g))
+        | inr n ↦ subst (IsKind again_held v) (sym (get_or-set_other kinds (g - 1) (v - 1) kind.Active kind.Problem (λ x. n (omega (arith, x, low, f_low))))) (other v n _ (t.each v low high))
+      ];
+    }
       where
         other : (v : ℕ) → (v ≡ g → ⊥) → (k : VarKind) → IsKind h v k → IsKind again_held v k
         other v n kind.Problem x =
             let f = var_facts (problem_of h) v x in
-            var_from (problem_of again_held) v (record { low = f.low; high = f.high;
+            var_from (problem_of again_held) v (record {
+              low = f.low;
+              high = f.high;
               inactive = λ c. elim (Contains-push_cases h.active g v c) [ inl a ↦ f.inactive a | inr q ↦ n (sym q) ];
-              unfreed = λ c. f.unfreed (rw e (Contains-cons g v gs c)) })
+              unfreed = λ c. f.unfreed (rw e (Contains-cons g v gs c));
+            })
         other v n kind.Active x = Contains-append_left h.active (g ∷ []) v x
         other v n kind.Freed x = elim (Contains-cons_cases g v gs (rw e at x)) [ inl q ↦ absurd (n (sym q)) | inr r ↦ r ]
         other v n kind.Beyond x = x

@@ -1,15 +1,15 @@
 -- The loop that takes clauses away.
-use Rattle.std.proofs.Common.{◌≡◌, ◌≢◌, ℕ, zero, suc, ◌+◌, ◌<◌, ◌≤◌, Bool, true, false, not, cond, Option, None, List, [], ◌∷◌, ◌++◌, length, take, drop, get_or, set, refl, sym, ap, ◌∙◌, subst, arith, add-zero, ◌⊎◌, inl, inr}
-use Rattle.std.specs.List.{Contains, filter}
+use Rattle.std.proofs.Common.{◌≡◌, ℕ, ◌+◌, ◌<◌, ◌≤◌, Bool, true, false, not, Option, None, List, [], ◌∷◌, ◌++◌, length, take, get_or, set, refl, sym, ap, ◌∙◌, subst, arith, add-zero}
+use Rattle.std.specs.List.{Contains}
 use Rattle.std.specs.Option.{unwrap_or}
-use Rattle.std.proofs.lemmas.List.{take_more, get_or_default, get_or-drop}
-use Rattle.std.proofs.lemmas.List.Elements.{Contains-append_left, Contains-append_right, Contains-append_cases, Contains-push}
-use Rattle.std.proofs.lemmas.List.Filters.{FiltersInPlace, FiltersInPlace-more_no, FiltersInPlace-more_set, FiltersInPlace-all}
+use Rattle.std.proofs.lemmas.List.{take_more, get_or-drop}
+use Rattle.std.proofs.lemmas.List.Elements.{Contains-append_left, Contains-push}
+use Rattle.std.proofs.lemmas.List.Filters.{FiltersInPlace, FiltersInPlace-more_no, FiltersInPlace-more_set}
 use Rattle.slab.specs.Slab.{Slab, get, Updates}
 use Rattle.gi_lit.specs.Problem.{names}
 use Rattle.gi_lit.specs.Lists.{IsDistinct}
 use Rattle.gi_store.specs.Stored.{clause_at}
-use Rattle.gi_store.proofs.Lists.{distinct_before, Contains-take}
+use Rattle.gi_store.proofs.Lists.{distinct_before}
 
 abbrev pub keeps : ℕ → Slab (List ℕ) → ℕ → Bool
 keeps v slab k = not (names v (clause_at slab k))
@@ -48,7 +48,7 @@ module _ (v : ℕ) (old new : Slab (List ℕ)) (xs ys : List ℕ) (kept i x : �
     distinct = h.distinct;
     filtered = FiltersInPlace-more_no h.filtered lt (ap not named) item;
     others = λ k n. u.others k (λ e. n (subst (λ zs. Contains zs k) (sym grown) (subst (Contains (take i xs ++ x ∷ [])) (sym e) (Contains-push (take i xs) x)), ap (λ j. names v (clause_at old j)) e ∙ named))
-      ∙ h.others k (λ c. n (subst (λ zs. Contains zs k) (sym grown) (Contains-append_left (take i xs) (x ∷ []) k c.0), c.1));
+        ∙ h.others k (λ c. n (subst (λ zs. Contains zs k) (sym grown) (Contains-append_left (take i xs) (x ∷ []) k c.0), c.1));
   }
     where
       named : names v (clause_at old x) ≡ true
@@ -70,7 +70,7 @@ pub forgetting_first : (old new newer : Slab (List ℕ)) (xs : List ℕ) (i x : 
 forgetting_first old new newer xs i x h lt item u = record {
   within = omega arith;
   others = λ k n. u.others k (λ e. n (subst (λ zs. Contains zs k) (sym grown) (subst (Contains (take i xs ++ x ∷ [])) (sym e) (Contains-push (take i xs) x))))
-    ∙ h.others k (λ c. n (subst (λ zs. Contains zs k) (sym grown) (Contains-append_left (take i xs) (x ∷ []) k c)));
+      ∙ h.others k (λ c. n (subst (λ zs. Contains zs k) (sym grown) (Contains-append_left (take i xs) (x ∷ []) k c)));
 }
   where
     grown : take (i + 1) xs ≡ take i xs ++ x ∷ []

@@ -1,11 +1,11 @@
 -- All that a store keeps, after each edit.
-use Rattle.std.proofs.Common.{◌≡◌, ℕ, ◌+◌, ◌-◌, ◌*◌, ◌/◌, ◌<◌, ◌≤◌, ◌==◌, Bool, true, not, Option, Some, None, List, [], ◌∷◌, ◌++◌, length, take, drop, map, max, get_or, set, reverse, replicate, refl, sym, ap, ◌∙◌, subst, arith, length-append, length-set}
-use Rattle.std.specs.List.{All, Contains, filter}
-use Rattle.std.proofs.lemmas.List.{length-replicate, reverse-append, append-nil}
+use Rattle.std.proofs.Common.{◌≡◌, ℕ, ◌+◌, ◌-◌, ◌*◌, ◌/◌, ◌<◌, ◌≤◌, true, Some, None, List, [], ◌∷◌, ◌++◌, length, take, drop, max, set, reverse, replicate, refl, sym, ap, ◌∙◌, subst, arith, length-append, length-set}
+use Rattle.std.specs.List.{Contains, filter}
+use Rattle.std.proofs.lemmas.List.{length-replicate, reverse-append}
 use Rattle.slab.specs.Slab.{Slab, get, Updates}
 use Rattle.gi_lit.specs.Problem.{IsPlain, names, without}
 use Rattle.gi_store.specs.Held.{Held, problem_of, IsWithin, with_plain, with_under, with_learnt, with_new_guard, without_guard_of, trimmed}
-use Rattle.gi_store.specs.Stored.{clause_at, held_of, IsStored, IsKept}
+use Rattle.gi_store.specs.Stored.{clause_at, held_of, IsKept}
 use Rattle.gi_store.specs.Whole.{IsWhole, IsTable}
 use Rattle.gi_store.specs.declared.kind.VarKind.{VarKind}
 use Rattle.gi_store.specs.declared.kind.VarKind.TheVariants as kind
@@ -112,11 +112,11 @@ module _ (kinds : List VarKind) (s : Slab (List ℕ)) (p q l a f : List ℕ) (ro
 
 -- a guard's clauses go
 module _ (kinds : List VarKind) (s m t : Slab (List ℕ)) (p q l a f : List ℕ) (room : ℕ) (i : IsKept kinds s p q l a f room) (g : ℕ) (act : Contains a g)
-  (first : (k : ℕ) → ¬ (Contains q k × (names g (clause_at s k) ≡ true)) → get m k ≡ get s k)
-  (second : (k : ℕ) → ¬ (Contains l k × (names g (clause_at m k) ≡ true)) → get t k ≡ get m k) where
+    (first : (k : ℕ) → ¬ (Contains q k × (names g (clause_at s k) ≡ true)) → get m k ≡ get s k)
+    (second : (k : ℕ) → ¬ (Contains l k × (names g (clause_at m k) ≡ true)) → get t k ≡ get m k) where
   without_is : held_of (length (set kinds (g - 1) kind.Freed)) t p (filter (keeps g s) q) (filter (keeps g m) l) (without g a) (f ++ g ∷ []) ≡ without_guard_of g (held_of (length kinds) s p q l a f)
   without_is = ap (λ n. held_of n t p (filter (keeps g s) q) (filter (keeps g m) l) (without g a) (f ++ g ∷ [])) (length-set kinds (g - 1) kind.Freed)
-    ∙ held_without s m t p q l g i.stored first second (length kinds) a f i.whole act
+      ∙ held_without s m t p q l g i.stored first second (length kinds) a f i.whole act
 
   pub kept_without : (more : ℕ) → length f + 1 + length (without g a) ≤ more → IsKept (set kinds (g - 1) kind.Freed) t p (filter (keeps g s) q) (filter (keeps g m) l) (without g a) (f ++ g ∷ []) more
   kept_without more rooms = record {

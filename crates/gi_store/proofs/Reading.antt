@@ -1,12 +1,12 @@
 -- What is read of a store.
-use Rattle.std.proofs.Common.{◌≡◌, ℕ, zero, suc, ◌+◌, ◌-◌, ◌<◌, ◌≤◌, ◌==◌, Bool, cond, Option, Some, None, List, [], ◌∷◌, ◌++◌, length, map, get_or, refl, sym, ap, ◌∙◌, subst, arith, ◌⊎◌, inl, inr}
+use Rattle.std.proofs.Common.{◌≡◌, ℕ, zero, suc, ◌-◌, ◌<◌, ◌≤◌, cond, Option, Some, None, List, [], ◌∷◌, ◌++◌, length, map, get_or, refl, sym, ap, ◌∙◌, subst, arith, inl, inr}
 use Rattle.std.specs.List.{Contains, slice_get}
-use Rattle.std.specs.Option.{IsSome, unwrap_or}
+use Rattle.std.specs.Option.{IsSome}
 use Rattle.std.proofs.lemmas.Bool.{ne_eqb}
 use Rattle.std.proofs.lemmas.List.Elements.{Contains-append_left, Contains-append_right, Contains-append_cases}
 use Rattle.slab.specs.Slab.{Slab, get}
 use Rattle.gi_lit.specs.Lists.{IsDistinct}
-use Rattle.gi_store.specs.Held.{Entry, PairEntry, Held, full_entry, entries, keys_of, Holds, IsLive, known_of, at_place}
+use Rattle.gi_store.specs.Held.{Entry, Held, full_entry, entries, keys_of, Holds, IsLive, at_place}
 use Rattle.gi_store.specs.Stored.{clause_at, entry_at, pair_at, held_of, IsStored}
 use Rattle.gi_store.proofs.Lists.{Contains-map}
 use Rattle.gi_store.proofs.Views.{keys_are}
@@ -65,9 +65,9 @@ module _ (s : Slab (List ℕ)) (p q l : List ℕ) (n : ℕ) (a f : List ℕ) (h 
   holds_slot k c = elim (Contains-append_cases p (q ++ l) k (key_known k c)) [
     | inl x ↦ Contains-append_left held.plain (map full_entry held.pairs ++ held.learnt) (entry_at s k) (Contains-map (entry_at s) p k x)
     | inr r ↦ Contains-append_right held.plain (map full_entry held.pairs ++ held.learnt) (entry_at s k) (elim (Contains-append_cases q l k r) [
-        | inl x ↦ Contains-append_left (map full_entry held.pairs) held.learnt (entry_at s k) (subst (Contains (map full_entry held.pairs)) (sym (h.ends k x)) (Contains-map full_entry held.pairs (pair_at s k) (Contains-map (pair_at s) q k x)))
-        | inr y ↦ Contains-append_right (map full_entry held.pairs) held.learnt (entry_at s k) (Contains-map (entry_at s) l k y)
-      ])
+      | inl x ↦ Contains-append_left (map full_entry held.pairs) held.learnt (entry_at s k) (subst (Contains (map full_entry held.pairs)) (sym (h.ends k x)) (Contains-map full_entry held.pairs (pair_at s k) (Contains-map (pair_at s) q k x)))
+      | inr y ↦ Contains-append_right (map full_entry held.pairs) held.learnt (entry_at s k) (Contains-map (entry_at s) l k y)
+    ])
   ]
 
   pub holds_only : (k : ℕ) → IsLive held k → (c : List ℕ) → Holds held k c → clause_at s k ≡ c

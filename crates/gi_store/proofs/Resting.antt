@@ -1,10 +1,10 @@
 -- The law on guards.
-use Rattle.std.proofs.Common.{◌≡◌, ℕ, ◌+◌, ◌*◌, ◌/◌, ◌≤◌, Bool, true, false, cond, List, [], ◌∷◌, ◌++◌, map, get_or, length, refl, sym, ap, ◌∙◌, subst, arith, ◌⊎◌, inl, inr}
+use Rattle.std.proofs.Common.{◌≡◌, ℕ, ◌+◌, ◌*◌, ◌/◌, ◌≤◌, Bool, true, false, cond, List, [], ◌∷◌, ◌++◌, map, get_or, refl, ap, ◌∙◌, subst, arith, ◌⊎◌, inl, inr}
 use Rattle.std.specs.List.{All, Contains}
 use Rattle.std.proofs.lemmas.Bool.{both_ways}
 use Rattle.std.proofs.lemmas.List.Elements.{All-append, All-cons, All-nil, All-map, All-contains, All-contains_itself, Contains-get_or, Contains-append_left, Contains-append_right, Contains-append_cases, Contains-push}
 use Rattle.slab.proofs.SlabLemmas.{Contains-cons, Contains-cons_cases}
-use Rattle.gi_lit.specs.Problem.{Problem, Pair, has, forced, guarded, full, force, IsProblemVar, IsPlain, IsWellFormed}
+use Rattle.gi_lit.specs.Problem.{Problem, Pair, has, forced, guarded, full, force, IsPlain, IsWellFormed}
 use Rattle.gi_lit.proofs.Vars.{var_facts, Contains-from_has, lacks_none}
 use Rattle.gi_lit.proofs.Distinct.{IsDistinct-apart}
 use Rattle.gi_store.specs.Laws.{IsGiven, IsLess, IsAsleep, IsGuardedLit, RestsOnGuards, ProblemsRestOnGuards}
@@ -47,6 +47,7 @@ module _ (p : Problem) (given : List ℕ) (w : IsWellFormed p) where
     where
       half : (2 * g + 1) / 2 ≡ g
       half = omega arith
+
       in_all : Contains (p.freed ++ p.active) g
       in_all = Contains-append_right p.freed p.active g act
 
@@ -60,7 +61,7 @@ module _ (p : Problem) (given : List ℕ) (w : IsWellFormed p) where
   less q act e = record {
     part = λ k d lt. Contains-append_left q.clause ((2 * q.guard + 1) ∷ []) (get_or q.clause k d) (Contains-get_or q.clause k d lt);
     others = All-append (λ l. Contains q.clause l ⊎ IsGiven p given l) q.clause ((2 * q.guard + 1) ∷ []) (λ k d lt. inl (Contains-get_or q.clause k d lt))
-      (All-cons (λ l. Contains q.clause l ⊎ IsGiven p given l) (2 * q.guard + 1) [] (inr (record { guard = q.guard; active = act; negative = refl; stands = Contains-from_has given (2 * q.guard) e })) (All-nil (λ l. Contains q.clause l ⊎ IsGiven p given l)));
+        (All-cons (λ l. Contains q.clause l ⊎ IsGiven p given l) (2 * q.guard + 1) [] (inr (record { guard = q.guard; active = act; negative = refl; stands = Contains-from_has given (2 * q.guard) e })) (All-nil (λ l. Contains q.clause l ⊎ IsGiven p given l)));
   }
 
   active_of : (q : Pair) → Contains p.pairs q → Contains p.active q.guard
@@ -70,7 +71,7 @@ module _ (p : Problem) (given : List ℕ) (w : IsWellFormed p) where
   unfolding full force
   rests = record {
     lits = All-append (All (IsGuardedLit p)) p.plain (map guarded p.pairs) (λ k d lt. plain_lits (get_or p.plain k d) (w.plain k d lt))
-      (All-map (All (IsGuardedLit p)) guarded p.pairs (λ k d lt. pair_lits (get_or p.pairs k d) (w.pairs k d lt) (w.guards k d lt)));
+        (All-map (All (IsGuardedLit p)) guarded p.pairs (λ k d lt. pair_lits (get_or p.pairs k d) (w.pairs k d lt) (w.guards k d lt)));
     in_force = λ d c. elim (Contains-append_cases p.plain (forced given p.pairs) d c) [
       | inl a ↦ (d, Contains-append_left p.plain (map guarded p.pairs) d a, itself d)
       | inr b ↦ let f = forced_from given p.pairs d b in (guarded f.pair, Contains-append_right p.plain (map guarded p.pairs) (guarded f.pair) (Contains-map guarded p.pairs f.pair f.stands), subst (IsLess p given (guarded f.pair)) f.clause (less f.pair (active_of f.pair f.stands) f.said))

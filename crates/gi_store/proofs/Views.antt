@@ -1,14 +1,13 @@
 -- How the lists of keys are seen.
-use Rattle.std.proofs.Common.{◌≡◌, ◌≢◌, ℕ, zero, suc, ◌+◌, ◌-◌, ◌*◌, ◌/◌, ◌<◌, ◌≤◌, Bool, true, false, Option, Some, None, List, [], ◌∷◌, ◌++◌, length, take, map, get_or, reverse, refl, sym, ap, ◌∙◌, subst, arith, ◌⊎◌, inl, inr, length-append, append_assoc}
+use Rattle.std.proofs.Common.{◌≡◌, ◌≢◌, ℕ, ◌+◌, ◌-◌, ◌*◌, ◌/◌, Option, Some, None, List, [], ◌∷◌, ◌++◌, length, take, map, get_or, reverse, refl, sym, ap, ◌∙◌, subst, arith, inl, inr, length-append, append_assoc}
 use Rattle.std.specs.List.{Contains}
 use Rattle.std.specs.Option.{IsSome, unwrap_or}
 use Rattle.std.proofs.lemmas.Bool.{false≢true}
 use Rattle.std.proofs.lemmas.List.{map_push, map-append, append-nil, take_at, get_or_push}
 use Rattle.std.proofs.lemmas.List.Elements.{Contains-append_left, Contains-append_right, Contains-append_cases}
 use Rattle.slab.specs.Slab.{Slab, get, Updates}
-use Rattle.gi_lit.specs.Lists.{IsDistinct}
-use Rattle.gi_store.specs.Held.{Entry, PairEntry, Held, full_entry, entries, keys_of, with_plain, with_under, with_learnt}
-use Rattle.gi_store.specs.Stored.{clause_at, entry_at, pair_of, pair_at, held_of, AreKeys, IsStored}
+use Rattle.gi_store.specs.Held.{Entry, PairEntry, Held, full_entry, keys_of, with_plain, with_under, with_learnt}
+use Rattle.gi_store.specs.Stored.{entry_at, pair_of, pair_at, held_of, AreKeys, IsStored}
 use Rattle.gi_store.proofs.Lists.{map_same, IsDistinct-insert, Contains-insert}
 
 abbrev entry_of : ℕ → Option (List ℕ) → Entry
@@ -60,8 +59,8 @@ keys_are s p q l n a f =
     map-append (λ (e : Entry). e.key) (map (entry_at s) p) (map full_entry (map (pair_at s) q) ++ map (entry_at s) l)
     ∙ ap (λ xs. xs ++ map (λ (e : Entry). e.key) (map full_entry (map (pair_at s) q) ++ map (entry_at s) l)) (keys_entries s p)
     ∙ ap (λ xs. p ++ xs) (map-append (λ (e : Entry). e.key) (map full_entry (map (pair_at s) q)) (map (entry_at s) l)
-      ∙ ap (λ xs. xs ++ map (λ (e : Entry). e.key) (map (entry_at s) l)) (keys_pairs s q)
-      ∙ ap (λ xs. q ++ xs) (keys_entries s l))
+    ∙ ap (λ xs. xs ++ map (λ (e : Entry). e.key) (map (entry_at s) l)) (keys_pairs s q)
+    ∙ ap (λ xs. q ++ xs) (keys_entries s l))
 
 abbrev made : ℕ → ℕ → List ℕ → PairEntry
 made k g c = record { key = k; guard = g; clause = c }
@@ -72,8 +71,10 @@ pair_of_guarded k g c = ap (λ x. made k x (take (length (c ++ (2 * g + 1) ∷ [
   where
     long : length (c ++ (2 * g + 1) ∷ []) - 1 ≡ length c
     long = omega (arith, length-append c ((2 * g + 1) ∷ []))
+
     guard : get_or (c ++ (2 * g + 1) ∷ []) (length (c ++ (2 * g + 1) ∷ []) - 1) 0 / 2 ≡ g
     guard = ap (λ x. x / 2) (ap (λ i. get_or (c ++ (2 * g + 1) ∷ []) i 0) long ∙ get_or_push c (2 * g + 1) 0 (length c) refl) ∙ omega arith
+
     clause : take (length (c ++ (2 * g + 1) ∷ []) - 1) (c ++ (2 * g + 1) ∷ []) ≡ c
     clause = ap (λ i. take i (c ++ (2 * g + 1) ∷ [])) long ∙ take_at c ((2 * g + 1) ∷ []) (length c) refl
 
@@ -114,14 +115,14 @@ module _ (s t : Slab (List ℕ)) (k : ℕ) (c : List ℕ) (vacant : get s k ≡ 
     pub stored_learnt : IsStored t p q (l ++ k ∷ [])
     stored_learnt = record {
       keys = subst (AreKeys t) (append_assoc (p ++ q) l (k ∷ []) ∙ append_assoc p q (l ++ k ∷ []))
-        (keys_insert ((p ++ q) ++ l) [] (subst (AreKeys s) (sym (append_assoc p q l) ∙ sym (append-nil ((p ++ q) ++ l))) h.keys));
+          (keys_insert ((p ++ q) ++ l) [] (subst (AreKeys s) (sym (append_assoc p q l) ∙ sym (append-nil ((p ++ q) ++ l))) h.keys));
       ends = ends_same;
     }
 
     pub stored_pair : (g : ℕ) (d : List ℕ) → c ≡ d ++ (2 * g + 1) ∷ [] → IsStored t p (q ++ k ∷ []) l
     stored_pair g d e = record {
       keys = subst (AreKeys t) (append_assoc p q (k ∷ l) ∙ ap (λ xs. p ++ xs) (sym (append_assoc q (k ∷ []) l)))
-        (keys_insert (p ++ q) l (subst (AreKeys s) (sym (append_assoc p q l)) h.keys));
+          (keys_insert (p ++ q) l (subst (AreKeys s) (sym (append_assoc p q l)) h.keys));
       ends = λ j m. elim (Contains-append_cases q (k ∷ []) j m) [
         | inl a ↦ ends_same j a
         | inr b ↦ subst (λ i. entry_at t i ≡ full_entry (pair_at t i)) (one j b) new_ends
@@ -130,8 +131,10 @@ module _ (s t : Slab (List ℕ)) (k : ℕ) (c : List ℕ) (vacant : get s k ≡ 
       where
         one : (j : ℕ) → Contains (k ∷ []) j → k ≡ j
         one j b = elim (Contains-insert [] [] k j b) [ inl x ↦ x | inr y ↦ omega (arith, y.1) ]
+
         pair_is : pair_at t k ≡ (let r : PairEntry = record { key = k; guard = g; clause = d } in r)
         pair_is = ap (λ (o : Option (List ℕ)). pair_of k (unwrap_or o [])) u.changed ∙ ap (pair_of k) e ∙ pair_of_guarded k g d
+
         new_ends : entry_at t k ≡ full_entry (pair_at t k)
         new_ends = new_entry ∙ ap (λ x. entry_of k (Some x)) e ∙ ap full_entry (sym pair_is)
 

@@ -1,5 +1,5 @@
 -- What a new guard gives.
-use Rattle.std.specs.Prelude.{◌≡◌, ℕ, ◌≤◌, List, []}
+use Rattle.std.specs.Prelude.{◌≡◌, []}
 use Rattle.gi_lit.specs.Problem.{next_guard}
 use Rattle.gi_store.specs.Held.{Held, problem_of, with_new_guard}
 use Rattle.gi_store.specs.declared.new_guard.NewGuard.{NewGuard}

@@ -1,6 +1,6 @@
 -- What contracts see of a store: its variables and guards, and its clauses under their keys.
-use Rattle.std.specs.Prelude.{◌≡◌, ℕ, ◌+◌, ◌-◌, ◌*◌, ◌/◌, ◌≤◌, ◌==◌, not, if◌then◌else◌, Option, None, List, [], ◌∷◌, ◌++◌, length, map, filter, drop, slice_get, All, Contains}
-use Rattle.gi_lit.specs.Problem.{Problem, Pair, names, without, with_guard}
+use Rattle.std.specs.Prelude.{ℕ, ◌+◌, ◌-◌, ◌*◌, ◌/◌, ◌≤◌, ◌==◌, not, if◌then◌else◌, Option, None, List, [], ◌∷◌, ◌++◌, length, map, filter, drop, slice_get, All, Contains}
+use Rattle.gi_lit.specs.Problem.{Problem, names, without, with_guard}
 
 -- a clause under its key
 pub record Entry : Type 0 where

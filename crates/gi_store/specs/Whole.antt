@@ -1,5 +1,5 @@
 -- What is true of each store.
-use Rattle.std.specs.Prelude.{◌≡◌, ℕ, ◌≤◌, ◌-◌, ◌<◌, List, length, slice_index_or, All, Contains}
+use Rattle.std.specs.Prelude.{ℕ, ◌≤◌, ◌-◌, ◌<◌, List, slice_index_or, All, Contains}
 use Rattle.gi_lit.specs.Problem.{IsProblemVar, IsWellFormed}
 use Rattle.gi_store.specs.Held.{Held, problem_of, known_of, IsWithin}
 use Rattle.gi_store.specs.declared.kind.VarKind.{VarKind}

@@ -26,7 +26,11 @@ pub(crate) fn add_kinds(kinds: &mut Vec<VarKind>, more: usize)
 }
 
 /// Makes room for one active guard more, and for its release.
-pub(crate) fn make_room(kinds: &mut Vec<VarKind>, active: &mut Vec<Var>, freed: &mut Vec<Var>) -> Result<(), AllocError>
+pub(crate) fn make_room(
+    kinds: &mut Vec<VarKind>,
+    active: &mut Vec<Var>,
+    freed: &mut Vec<Var>,
+) -> Result<(), AllocError>
     ensures kinds { kinds.new.items ≡ kinds.old.items }
     ensures active { active.new.items ≡ active.old.items }
     ensures freed { freed.new.items ≡ freed.old.items }
@@ -43,7 +47,11 @@ pub(crate) fn make_room(kinds: &mut Vec<VarKind>, active: &mut Vec<Var>, freed: 
 }
 
 /// Makes the guard freed last active, else the next variable.
-pub(crate) fn take_guard(kinds: &mut Vec<VarKind>, active: &mut Vec<Var>, freed: &mut Vec<Var>) -> Var
+pub(crate) fn take_guard(
+    kinds: &mut Vec<VarKind>,
+    active: &mut Vec<Var>,
+    freed: &mut Vec<Var>,
+) -> Var
     requires kind_room { vec_len kinds.old + 1 ≤ vec_capacity kinds.old }
     requires active_room { vec_len active.old + 1 ≤ vec_capacity active.old }
     requires within { (v : ℕ) → Contains freed.old.items v → v ≤ length kinds.old.items }

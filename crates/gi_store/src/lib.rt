@@ -16,4 +16,3 @@ pub use kind::VarKind;
 pub use laws::{edits_are_of_the_problem, problems_rest_on_guards};
 pub use new_guard::NewGuard;
 pub use store::Store;
-

@@ -66,7 +66,11 @@ pub(crate) fn forget_first(slots: &mut Slab<Lits>, keys: &mut Vec<Key>, count: u
 }
 
 /// Stores a clause, and puts its key behind the others.
-pub(crate) fn insert(slots: &mut Slab<Lits>, keys: &mut Vec<Key>, clause: Lits) -> Result<Key, AllocError>
+pub(crate) fn insert(
+    slots: &mut Slab<Lits>,
+    keys: &mut Vec<Key>,
+    clause: Lits,
+) -> Result<Key, AllocError>
     ensures keys { IfOk result (λ k. keys.new.items ≡ keys.old.items ++ k ∷ []) }
     ensures vacant { IfOk result (λ k. get slots.old k ≡ None) }
     ensures updates { IfOk result (λ k. Updates slots.old slots.new k (Some clause)) }

@@ -5,10 +5,10 @@ ghost use Rattle.gi_store.specs.Whole.{IsWhole, IsKind};
 ghost use Rattle.gi_lit.specs.Lists.{IsDistinct};
 ghost use Rattle.gi_store.specs.Answers.{GivesGuard};
 
+use crate::guards::{add_kinds, drop_var, make_room, take_guard};
 use crate::key::Key;
 use crate::kind::VarKind;
 use crate::new_guard::NewGuard;
-use crate::guards::{add_kinds, drop_var, make_room, take_guard};
 use crate::slots::{forget_first, forget_naming, insert};
 use gi_lit::{Lit, Lits, MAX_VAR, Var};
 use slab::Slab;
@@ -127,7 +127,11 @@ impl Store {
             return NewGuard::Limit;
         }
         match make_room(&mut self.kinds, &mut self.active, &mut self.freed) {
-            Ok(()) => NewGuard::Guard(take_guard(&mut self.kinds, &mut self.active, &mut self.freed)),
+            Ok(()) => NewGuard::Guard(take_guard(
+                &mut self.kinds,
+                &mut self.active,
+                &mut self.freed,
+            )),
             Err(_) => NewGuard::NoMemory,
         }
     }

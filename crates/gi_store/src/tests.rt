@@ -15,7 +15,10 @@ fn lits(alloc: Global, numbers: &[i32]) -> Result<Vec<Lit>, AllocError> {
 }
 
 fn is_clause(clause: &[Lit], numbers: &[i32]) -> bool {
-    clause.iter().map(|l| l.to_dimacs()).eq(numbers.iter().copied())
+    clause
+        .iter()
+        .map(|l| l.to_dimacs())
+        .eq(numbers.iter().copied())
 }
 
 fn add(alloc: Global, store: &mut Store, numbers: &[i32]) -> Result<Key, Fail> {

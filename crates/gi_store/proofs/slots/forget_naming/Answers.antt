@@ -1,6 +1,5 @@
-use Rattle.std.proofs.Common.{◌≡◌, ◌+◌, List, ℕ, sym, ◌∙◌, subst, arith, length}
-use Rattle.slab.specs.Slab.{Slab}
-use Rattle.gi_store.proofs.Forgetting.{Forgetting, forgetting_no, forgetting_yes}
+use Rattle.std.proofs.Common.{sym, ◌∙◌, arith}
+use Rattle.gi_store.proofs.Forgetting.{forgetting_no, forgetting_yes}
 use Rattle.gi_store.proofs.slots.forget_naming.Goals as goal
 use Rattle.gi_store.proofs.slots.forget_naming.Goals.{then-is_named, else-is_named}
 

@@ -1,5 +1,5 @@
-use Rattle.std.proofs.Common.{◌≡◌, ℕ, List, length, refl, sym, ap, ◌∙◌, subst}
-use Rattle.gi_store.specs.Held.{Held, problem_of, IsLive, Keeps, IsWithin, with_plain, with_learnt}
+use Rattle.std.proofs.Common.{◌≡◌, length, sym, ◌∙◌, subst}
+use Rattle.gi_store.specs.Held.{Held, problem_of, IsLive, Keeps}
 use Rattle.gi_lit.specs.Problem.{IsPlain}
 use Rattle.gi_store.proofs.Kept.{kept_plain, kept_same}
 use Rattle.gi_store.proofs.Views.{held_plain, was_free}

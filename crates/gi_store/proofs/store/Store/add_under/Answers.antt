@@ -1,6 +1,6 @@
-use Rattle.std.proofs.Common.{◌≡◌, ◌++◌, ◌∷◌, ◌+◌, ◌*◌, [], ℕ, List, length, refl, sym, ap, ◌∙◌, subst}
+use Rattle.std.proofs.Common.{◌≡◌, ◌++◌, ◌∷◌, ◌+◌, ◌*◌, [], length, sym, ap, ◌∙◌, subst}
 use Rattle.std.specs.List.{Contains}
-use Rattle.gi_store.specs.Held.{Held, problem_of, IsLive, Keeps, with_under}
+use Rattle.gi_store.specs.Held.{Held, problem_of, IsLive, Keeps}
 use Rattle.gi_lit.specs.Problem.{IsPlain}
 use Rattle.gi_store.proofs.Kept.{kept_pair, kept_same}
 use Rattle.gi_store.proofs.Views.{held_pair, was_free}

@@ -1,5 +1,4 @@
-use Rattle.std.proofs.Common.{◌≡◌, ◌++◌, ◌-◌, ◌≤◌, replicate, length, arith, ap, sym, ◌∙◌}
-use Rattle.gi_store.specs.declared.kind.VarKind.TheVariants.{Problem}
+use Rattle.std.proofs.Common.{◌≡◌, ◌-◌, length, arith}
 use Rattle.gi_store.proofs.Kept.{kept_grown}
 use Rattle.gi_store.proofs.store.Store.grow.Goals as goal
 

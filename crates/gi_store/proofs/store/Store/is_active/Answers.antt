@@ -1,5 +1,4 @@
-use Rattle.std.proofs.Common.{subst, length}
-use Rattle.gi_store.specs.Held.{Held}
+use Rattle.std.proofs.Common.{subst}
 use Rattle.gi_store.specs.Whole.{IsWhole}
 use Rattle.gi_store.proofs.Edits.{not_active}
 use Rattle.gi_store.proofs.store.Store.is_active.Goals as goal

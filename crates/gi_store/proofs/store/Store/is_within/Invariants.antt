@@ -1,6 +1,5 @@
 use Rattle.std.proofs.Common.{◌/◌, ◌≤◌, take}
 use Rattle.std.specs.List.{All}
-use Rattle.gi_store.specs.Held.{problem_of}
 use Rattle.gi_store.proofs.store.Store.is_within.Given as goal
 
 abbrev pub invariant-loop-l : goal.invariant-loop-l

@@ -1,4 +1,4 @@
-use Rattle.std.proofs.Common.{◌≡◌, ◌<◌, ◌≤◌, ◌-◌, ◌++◌, ℕ, Option, Some, None, length, arith, sym, ap, ◌∙◌, subst}
+use Rattle.std.proofs.Common.{◌≡◌, ◌<◌, ◌≤◌, ◌-◌, ◌++◌, Some, None, length, arith, sym, ap, ◌∙◌, subst}
 use Rattle.std.specs.List.{slice_get}
 use Rattle.gi_store.specs.Held.{Held, keys_of, at_place}
 use Rattle.gi_store.proofs.Reading.{get_left, get_right, get_read, get_past, key_read}
@@ -8,7 +8,7 @@ pub returns-then-place-len : goal.returns-then-place-len
 returns-then-place-len c =
     let lt : c.args.i - 1 < length c.self.inside.plain.items = omega (arith, c.if-place-len.true, c.len.ensures, c.self.inside.plain.ok.0) in
     subst (λ (h : Held). Some c.index.result.now ≡ at_place (keys_of h) c.args.i) c.self.view_is (key_read c.self.inside.slots _ _ _ (length c.self.inside.kinds.items) c.self.inside.active.items c.self.inside.freed.items c.self.invariant.stored c.args.i _ c.if-i-eq0.false
-      (get_read c.self.inside.plain.items (c.args.i - 1) c.index.result.now lt c.index.ensures ∙ sym (get_left c.self.inside.plain.items (c.self.inside.pairs.items ++ c.self.inside.learnt.items) (c.args.i - 1) lt)))
+    (get_read c.self.inside.plain.items (c.args.i - 1) c.index.result.now lt c.index.ensures ∙ sym (get_left c.self.inside.plain.items (c.self.inside.pairs.items ++ c.self.inside.learnt.items) (c.args.i - 1) lt)))
 
 pub returns-then-place-len-2 : goal.returns-then-place-len-2
 returns-then-place-len-2 c =
@@ -16,10 +16,10 @@ returns-then-place-len-2 c =
     let at : c.args.i - 1 - c.len-2.result ≡ c.args.i - 1 - length c.self.inside.plain.items = omega (arith, c.len-2.ensures, c.self.inside.plain.ok.0) in
     let lt : c.args.i - 1 - c.len-2.result < length c.self.inside.pairs.items = omega (arith, c.if-place-len-2.true, c.len-3.ensures, c.self.inside.pairs.ok.0) in
     subst (λ (h : Held). Some c.index-then-place-len-2.result.now ≡ at_place (keys_of h) c.args.i) c.self.view_is (key_read c.self.inside.slots _ _ _ (length c.self.inside.kinds.items) c.self.inside.active.items c.self.inside.freed.items c.self.invariant.stored c.args.i _ c.if-i-eq0.false
-      (get_read c.self.inside.pairs.items (c.args.i - 1 - c.len-2.result) c.index-then-place-len-2.result.now lt c.index-then-place-len-2.ensures
-        ∙ sym (get_left c.self.inside.pairs.items c.self.inside.learnt.items (c.args.i - 1 - c.len-2.result) lt)
-        ∙ ap (slice_get (c.self.inside.pairs.items ++ c.self.inside.learnt.items)) at
-        ∙ sym (get_right c.self.inside.plain.items (c.self.inside.pairs.items ++ c.self.inside.learnt.items) (c.args.i - 1) past)))
+    (get_read c.self.inside.pairs.items (c.args.i - 1 - c.len-2.result) c.index-then-place-len-2.result.now lt c.index-then-place-len-2.ensures
+    ∙ sym (get_left c.self.inside.pairs.items c.self.inside.learnt.items (c.args.i - 1 - c.len-2.result) lt)
+    ∙ ap (slice_get (c.self.inside.pairs.items ++ c.self.inside.learnt.items)) at
+    ∙ sym (get_right c.self.inside.plain.items (c.self.inside.pairs.items ++ c.self.inside.learnt.items) (c.args.i - 1) past)))
 
 pub returns-then-place-len-3 : goal.returns-then-place-len-3
 returns-then-place-len-3 c =
@@ -28,10 +28,10 @@ returns-then-place-len-3 c =
     let at : c.args.i - 1 - c.len-2.result - c.len-4.result ≡ c.args.i - 1 - length c.self.inside.plain.items - length c.self.inside.pairs.items = omega (arith, c.len-2.ensures, c.len-4.ensures, c.self.inside.plain.ok.0, c.self.inside.pairs.ok.0) in
     let lt : c.args.i - 1 - c.len-2.result - c.len-4.result < length c.self.inside.learnt.items = omega (arith, c.if-place-len-3.true, c.len-5.ensures, c.self.inside.learnt.ok.0) in
     subst (λ (h : Held). Some c.index-then-place-len-3.result.now ≡ at_place (keys_of h) c.args.i) c.self.view_is (key_read c.self.inside.slots _ _ _ (length c.self.inside.kinds.items) c.self.inside.active.items c.self.inside.freed.items c.self.invariant.stored c.args.i _ c.if-i-eq0.false
-      (get_read c.self.inside.learnt.items _ c.index-then-place-len-3.result.now lt c.index-then-place-len-3.ensures
-        ∙ ap (slice_get c.self.inside.learnt.items) at
-        ∙ sym (get_right c.self.inside.pairs.items c.self.inside.learnt.items (c.args.i - 1 - length c.self.inside.plain.items) further)
-        ∙ sym (get_right c.self.inside.plain.items (c.self.inside.pairs.items ++ c.self.inside.learnt.items) (c.args.i - 1) past)))
+    (get_read c.self.inside.learnt.items _ c.index-then-place-len-3.result.now lt c.index-then-place-len-3.ensures
+    ∙ ap (slice_get c.self.inside.learnt.items) at
+    ∙ sym (get_right c.self.inside.pairs.items c.self.inside.learnt.items (c.args.i - 1 - length c.self.inside.plain.items) further)
+    ∙ sym (get_right c.self.inside.plain.items (c.self.inside.pairs.items ++ c.self.inside.learnt.items) (c.args.i - 1) past)))
 
 pub returns : goal.returns
 returns c =
@@ -39,6 +39,6 @@ returns c =
     let further : length c.self.inside.pairs.items ≤ c.args.i - 1 - length c.self.inside.plain.items = omega (arith, c.if-place-len-2.false, c.len-2.ensures, c.len-3.ensures, c.self.inside.plain.ok.0, c.self.inside.pairs.ok.0) in
     let out : length c.self.inside.learnt.items ≤ c.args.i - 1 - length c.self.inside.plain.items - length c.self.inside.pairs.items = omega (arith, c.if-place-len-3.false, c.len-2.ensures, c.len-4.ensures, c.len-5.ensures, c.self.inside.plain.ok.0, c.self.inside.pairs.ok.0, c.self.inside.learnt.ok.0) in
     subst (λ (h : Held). None ≡ at_place (keys_of h) c.args.i) c.self.view_is (key_read c.self.inside.slots _ _ _ (length c.self.inside.kinds.items) c.self.inside.active.items c.self.inside.freed.items c.self.invariant.stored c.args.i _ c.if-i-eq0.false
-      (get_past c.self.inside.learnt.items _ out
-        ∙ sym (get_right c.self.inside.pairs.items c.self.inside.learnt.items (c.args.i - 1 - length c.self.inside.plain.items) further)
-        ∙ sym (get_right c.self.inside.plain.items (c.self.inside.pairs.items ++ c.self.inside.learnt.items) (c.args.i - 1) past)))
+    (get_past c.self.inside.learnt.items _ out
+    ∙ sym (get_right c.self.inside.pairs.items c.self.inside.learnt.items (c.args.i - 1 - length c.self.inside.plain.items) further)
+    ∙ sym (get_right c.self.inside.plain.items (c.self.inside.pairs.items ++ c.self.inside.learnt.items) (c.args.i - 1) past)))

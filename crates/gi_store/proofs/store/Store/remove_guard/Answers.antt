@@ -1,7 +1,6 @@
-use Rattle.std.proofs.Common.{◌≡◌, ◌+◌, ◌-◌, ◌<◌, ◌≤◌, ℕ, length, arith, sym, subst, ap, ◌∙◌, List}
+use Rattle.std.proofs.Common.{length, arith, sym, subst}
 use Rattle.std.specs.List.{Contains}
 use Rattle.gi_lit.specs.Lists.{IsDistinct}
-use Rattle.gi_lit.specs.Problem.{without}
 use Rattle.gi_lit.proofs.Distinct.{IsDistinct-append_left}
 use Rattle.gi_store.specs.Held.{Held, Keeps, keys_of}
 use Rattle.gi_store.proofs.Lists.{IsDistinct-append_right}
@@ -35,13 +34,13 @@ invariant_of-self c =
     let a : Contains c.self.inside.active.items c.args.guard = subst (λ (h : Held). Contains h.active c.args.guard) (sym c.self.view_is) c.requires in
     let less = without_less c.args.guard c.self.inside.active.items a in
     rw (c.index.ensures.value, c.forget_naming.ensures.kept, c.forget_naming-2.ensures.kept, c.drop_var.ensures.items, c.push_reserved.ensures.items, c.push_reserved.ensures.capacity)
-      (kept_without c.self.inside.kinds.items c.self.inside.slots c.forget_naming.new.slots c.forget_naming-2.new.slots _ _ _ _ _ _ c.self.invariant c.args.guard a c.forget_naming.ensures.others c.forget_naming-2.ensures.others _ (omega (arith, less, c.self.invariant.rooms)))
+    (kept_without c.self.inside.kinds.items c.self.inside.slots c.forget_naming.new.slots c.forget_naming-2.new.slots _ _ _ _ _ _ c.self.invariant c.args.guard a c.forget_naming.ensures.others c.forget_naming-2.ensures.others _ (omega (arith, less, c.self.invariant.rooms)))
 
 pub returns-clause-after : goal.returns-clause-after
 returns-clause-after c =
     let a : Contains c.self.inside.active.items c.args.guard = subst (λ (h : Held). Contains h.active c.args.guard) (sym c.self.view_is) c.requires in
     rw (c.index.ensures.value, c.forget_naming.ensures.kept, c.forget_naming-2.ensures.kept, c.drop_var.ensures.items, c.push_reserved.ensures.items, ← c.self.view_is)
-      (without_held c.self.inside.kinds.items c.self.inside.slots c.forget_naming.new.slots c.forget_naming-2.new.slots _ _ _ _ _ _ c.self.invariant c.args.guard a c.forget_naming.ensures.others c.forget_naming-2.ensures.others)
+    (without_held c.self.inside.kinds.items c.self.inside.slots c.forget_naming.new.slots c.forget_naming-2.new.slots _ _ _ _ _ _ c.self.invariant c.args.guard a c.forget_naming.ensures.others c.forget_naming-2.ensures.others)
 
 pub returns-clause-keeps : goal.returns-clause-keeps
 returns-clause-keeps c = subst (Keeps c.args.self.now) (sym (returns-clause-after c)) (keeps_without c.args.guard c.args.self.now (subst (λ (h : Held). IsDistinct (keys_of h)) c.self.view_is (distinct_keys c.self.inside.slots _ _ _ (length c.self.inside.kinds.items) c.self.inside.active.items c.self.inside.freed.items c.self.invariant.stored)))
