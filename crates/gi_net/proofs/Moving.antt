@@ -68,9 +68,9 @@ begun w first s same = record {
 }
 
 -- bytes were written
-written : {last : Type 0} {start v : World} {first h : Standing} {s : Source} {taken : ℕ} {done : List Item} {own : List Entry} {out : List ℕ} (w : World) (bytes : List ℕ)
+pub wrote_on : {last : Type 0} {start v : World} {first h : Standing} {s : Source} {taken : ℕ} {done : List Item} {own : List Entry} {out : List ℕ} (w : World) (bytes : List ℕ)
     → SoFar last start v first h s taken done own out → Wrote v w bytes → SoFar last start w first h s taken done own (out ++ bytes)
-written {start = start} {v = v} {own = own} {out = out} w bytes was wrote =
+wrote_on {start = start} {v = v} {own = own} {out = out} w bytes was wrote =
     let put : outs (map Out wrote.pieces) ≡ bytes = outs_of_outs wrote.pieces ∙ wrote.joined in
     let read : ins (was.added ++ map Out wrote.pieces) ≡ ins was.added = ins-append was.added (map Out wrote.pieces) ∙ ap (λ xs. ins was.added ++ xs) (ins_of_outs wrote.pieces) ∙ append-nil (ins was.added) in
     record {
@@ -130,12 +130,7 @@ entered {first = first} {h = h} {s = s} {done = done} {own = own} k t i r was gi
 pub answered : {start v : World} {first h : Standing} {s : Source} {taken : ℕ} {done : List Item} {own : List Entry} {out : List ℕ} (w : World) (k : Standing) (t : Source) (i : Item) (r : Reply) (bytes : List ℕ)
     → SoFar ⊥ start v first h s taken done own out → GivesItem i s t → Took i.asked r h k → Wrote v w bytes
     → SoFar ⊥ start w first k t taken (done ++ i ∷ []) (own ++ entry_of first.number i.asked r) (out ++ bytes)
-answered w k t i r bytes was gives took wrote = written w bytes (entered k t i r was gives (took_first i was.number took)) wrote
-
--- bytes were written that answer no item
-pub wrote_on : {last : Type 0} {start v : World} {first h : Standing} {s : Source} {taken : ℕ} {done : List Item} {own : List Entry} {out : List ℕ} (w : World) (bytes : List ℕ)
-    → SoFar last start v first h s taken done own out → Wrote v w bytes → SoFar last start w first h s taken done own (out ++ bytes)
-wrote_on w bytes was wrote = written w bytes was wrote
+answered w k t i r bytes was gives took wrote = wrote_on w bytes (entered k t i r was gives (took_first i was.number took)) wrote
 
 -- a call has no entry
 pub broke_off : {start v : World} {first h : Standing} {s : Source} {taken : ℕ} {done : List Item} {own : List Entry} {out : List ℕ} (k : Standing) (what : Call)

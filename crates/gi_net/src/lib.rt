@@ -10,3 +10,6 @@ pub use caller::{Answered, Caller};
 pub use how::How;
 pub use laws::undisturbed_is_whole;
 pub use session::serve_one;
+
+#[cfg(test)]
+mod tests;
