@@ -12,3 +12,6 @@ pub use call::{CallRead, read_call};
 pub use reader::{Asked, Given, Item, Reader};
 pub use reply::write_reply;
 pub use sent::Sent;
+
+#[cfg(test)]
+mod tests;
