@@ -1,0 +1,204 @@
+ghost use Rattle.std.specs.Prelude.{◌≡◌, ◌+◌, ◌<◌, ◌≤◌, ◌==◌, ◌&&◌, nat_le, false, length, IfOk, OnOk};
+ghost use Rattle.gi_lit.specs.Problem.{grown, with_clause, with_pair, with_guard, next_guard};
+ghost use Rattle.gi_model.specs.Limits.{most_vars, most_solves};
+ghost use Rattle.gi_model.specs.State.{opening, shut};
+ghost use Rattle.gi_model.specs.Effects.{edited, with_problem, assuming, untested, started, dropped, trimmed, pausing, resuming, stopping};
+ghost use Rattle.gi_model.specs.Replies.{status_of, waited};
+
+use crate::lists::{append, drop_front, without_var};
+use crate::scopes::{Level, assumptions};
+use crate::solves::{Flag, Job, Task, pause, resume, status, stop, wait};
+use crate::store::Store;
+use gi_lit::{Clause, Lits, Var, top_variable};
+use gi_model::Reply;
+use std::alloc::{AllocError, Global};
+use std::marker::Model;
+use std::mem;
+
+/// The machine over plain lists.
+#[derive(Drop)]
+pub struct Plain {
+    alloc: Global,
+    pub(crate) store: Store,
+    pub(crate) known: Vec<Clause>,
+    pub(crate) pending: Lits,
+    pub(crate) scopes: Vec<Level>,
+    pub(crate) task: Task,
+    pub(crate) serial: u64,
+    pub(crate) flag: Flag,
+}
+
+impl Model for Plain {
+    ghost use Rattle.gi_model.specs.State.{State};
+    ghost use Rattle.gi_plain.specs.View.{state_of};
+
+    ghost Value = { State };
+
+    ghost view = { λ p. state_of p.store p.known.items p.pending p.scopes.items p.task p.serial p.flag };
+}
+
+impl Plain {
+    /// A new machine.
+    pub fn new(alloc: Global) -> Plain
+        ensures { result ≡ opening }
+    {
+        Plain {
+            alloc,
+            store: Store::new(alloc),
+            known: Vec::new(alloc),
+            pending: Lits::new(alloc),
+            scopes: Vec::new(alloc),
+            task: Task::Idle,
+            serial: 0,
+            flag: Flag::Alive,
+        }
+    }
+
+    /// After an edit an ended solve is none.
+    fn forget(&mut self)
+        ensures { self.new ≡ record self.old { solve = edited self.old.solve } }
+    {
+        if let Task::Ended(_, _) = &self.task {
+            self.task = Task::Idle;
+        }
+    }
+
+    /// At least so many variables.
+    pub fn grow(&mut self, n: u32)
+        requires { n ≤ most_vars }
+        ensures { self.new ≡ with_problem (grown n self.old.problem) self.old }
+    {
+        self.store.grow(n);
+        self.forget();
+    }
+
+    /// A plain clause more.
+    pub fn put_clause(&mut self, c: &Clause) -> Result<(), AllocError>
+        ensures { OnOk result (self.new ≡ with_problem (with_clause c.now self.old.problem) self.old) }
+    {
+        self.store.add(c)?;
+        self.forget();
+        Ok(())
+    }
+
+    /// A clause more under a guard.
+    pub fn put_pair(&mut self, g: Var, c: &Clause) -> Result<(), AllocError>
+        ensures { OnOk result (self.new ≡ with_problem (with_pair g c.now self.old.problem) self.old) }
+    {
+        self.store.under(g, c)?;
+        self.forget();
+        Ok(())
+    }
+
+    /// Drops a guard, with its clauses and what was learnt about it.
+    pub fn free(&mut self, g: Var) -> Result<(), AllocError>
+        ensures { OnOk result (self.new ≡ dropped g self.old) }
+    {
+        self.store.drop_guard(g)?;
+        let known = mem::replace(&mut self.known, Vec::new(self.alloc));
+        self.known = without_var(self.alloc, known, g)?;
+        self.forget();
+        Ok(())
+    }
+
+    /// Assumptions more.
+    pub fn take_on(&mut self, lits: &Lits) -> Result<(), AllocError>
+        ensures { OnOk result (self.new ≡ assuming lits.now self.old) }
+    {
+        append(&mut self.pending, lits.as_slice())?;
+        self.store.grow(top_variable(lits.as_slice()));
+        self.forget();
+        Ok(())
+    }
+
+    /// Closes the scope that was opened last.
+    pub fn close(&mut self)
+        ensures { self.new ≡ untested self.old }
+    {
+        let _ = self.scopes.pop();
+        self.forget();
+    }
+
+    /// With more than 20,000 learnt clauses the oldest half goes.
+    fn trim(&mut self)
+        ensures { self.new ≡ record self.old { known = trimmed self.old.known } }
+    {
+        if self.known.len() > 20_000 {
+            let half = self.known.len() / 2;
+            drop_front(&mut self.known, half);
+        }
+    }
+
+    /// Starts a solve, and tells its serial.
+    pub fn start(&mut self, budget: u32) -> Result<u64, AllocError>
+        requires { self.old.serial < most_solves }
+        ensures serial { IfOk result (λ s. s ≡ self.old.serial + 1) }
+        ensures state { OnOk result (self.new ≡ started budget self.old) }
+    {
+        let mut assumed = assumptions(self.alloc, self.scopes.as_slice())?;
+        append(&mut assumed, self.pending.as_slice())?;
+        self.trim();
+        self.pending = Lits::new(self.alloc);
+        self.serial += 1;
+        self.task = Task::Running(Job {
+            serial: self.serial,
+            assumed,
+            budget,
+            spent: 0,
+        });
+        Ok(self.serial)
+    }
+
+    /// Hands out a guard.
+    pub fn make_guard(&mut self) -> Result<Var, AllocError>
+        requires { ((length self.old.problem.freed == 0) && nat_le most_vars self.old.problem.vars) ≡ false }
+        ensures guard { IfOk result (λ g. g ≡ next_guard self.old.problem) }
+        ensures state { OnOk result (self.new ≡ with_problem (with_guard self.old.problem) self.old) }
+    {
+        let g = self.store.new_guard()?;
+        self.forget();
+        Ok(g)
+    }
+
+    /// Lets a running solve rest.
+    pub fn rest(&mut self)
+        ensures { self.new ≡ record self.old { solve = pausing self.old.solve } }
+    {
+        self.task = pause(mem::replace(&mut self.task, Task::Idle));
+    }
+
+    /// Lets a paused solve go on.
+    pub fn go_on(&mut self)
+        ensures { self.new ≡ record self.old { solve = resuming self.old.solve } }
+    {
+        self.task = resume(mem::replace(&mut self.task, Task::Idle));
+    }
+
+    /// Ends a running or paused solve.
+    pub fn end(&mut self)
+        ensures { self.new ≡ record self.old { solve = stopping self.old.solve } }
+    {
+        self.task = stop(mem::replace(&mut self.task, Task::Idle));
+    }
+
+    /// Shuts the machine.
+    pub fn lock(&mut self)
+        ensures { self.new ≡ record self.old { life = shut } }
+    {
+        self.flag = Flag::Shut;
+    }
+
+    /// How the solve stands.
+    pub fn standing(&self) -> Reply
+        ensures { result ≡ status_of self.now.solve }
+    {
+        status(&self.task)
+    }
+
+    /// How the solve ended.
+    pub fn ending(&self) -> Result<Reply, AllocError>
+        ensures { IfOk result (λ r. r ≡ waited self.now.solve) }
+    {
+        wait(&self.task)
+    }
+}

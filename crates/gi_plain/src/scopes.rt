@@ -1,0 +1,57 @@
+ghost use Rattle.std.specs.Prelude.{◌≡◌, ◌++◌, IfOk, true, false};
+ghost use Rattle.std.specs.List.{list_any};
+ghost use Rattle.gi_lit.specs.Problem.{has};
+ghost use Rattle.gi_model.specs.State.{scope_assumed, scope_listed, listed_in, Scope};
+
+use crate::lists::{append, has_lit};
+use gi_lit::{Lit, Lits};
+use std::alloc::{AllocError, Global};
+use std::marker::Model;
+
+/// A scope.
+#[derive(Drop)]
+pub struct Level {
+    assumed: Lits,
+    failed: bool,
+    found: Lits,
+}
+
+impl Model for Level {
+    ghost use Rattle.gi_model.specs.State.{Scope};
+    ghost use Rattle.gi_plain.specs.Found.{found_of};
+
+    ghost Value = { Scope };
+
+    ghost view = { λ l. record { assumed = l.assumed; found = found_of l.failed l.found } };
+}
+
+impl Level {
+    /// Whether the scope lists the literal.
+    fn lists(&self, m: Lit) -> bool
+        ensures { result ≡ has (listed_in self.now.found) m }
+    {
+        if self.failed {
+            false
+        } else {
+            has_lit(self.found.as_slice(), m)
+        }
+    }
+}
+
+/// Whether some scope lists the literal.
+pub fn lists(levels: &[Level], m: Lit) -> bool
+    ensures { result ≡ list_any (λ (sc : Scope). has (listed_in sc.found) m) levels.now }
+{
+    levels.iter().any(|level| level.lists(m))
+}
+
+/// The assumptions of the scopes, in order.
+pub fn assumptions(alloc: Global, levels: &[Level]) -> Result<Lits, AllocError>
+    ensures { IfOk result (λ ls. ls ≡ scope_assumed levels.now) }
+{
+    let mut all = Lits::new(alloc);
+    for level in levels {
+        append(&mut all, level.assumed.as_slice())?;
+    }
+    Ok(all)
+}

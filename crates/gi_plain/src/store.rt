@@ -1,0 +1,238 @@
+ghost use Rattle.std.specs.Prelude.{◌≡◌, ◌+◌, ◌<◌, ◌≤◌, ◌==◌, ◌&&◌, ◌||◌, not, nat_le, nat_lt, length, false, List, ℕ, IfOk, OnOk, IfSome, IfNone, sum_by};
+ghost use Rattle.std.specs.List.{list_any};
+ghost use Rattle.gi_lit.specs.Problem.{Pair, lit_count, has, is_problem_var, is_usable, is_guard_lit, empty_problem, grown, with_clause, with_pair, with_guard, next_guard, without_guard, without_pairs};
+ghost use Rattle.gi_model.specs.Limits.{most_vars, most_lits};
+ghost use Rattle.gi_model.specs.Refusals.{some_unusable, is_full};
+
+use crate::lists::{has_var, without};
+use gi_lit::{Clause, Lit, MAX_VAR, Var, top_variable};
+use std::alloc::{AllocError, Global};
+use std::marker::Model;
+use std::mem;
+
+/// A clause that is in force under its guard.
+#[derive(Drop)]
+pub struct Guarded {
+    guard: Var,
+    clause: Clause,
+}
+
+impl Model for Guarded {
+    ghost use Rattle.gi_lit.specs.Problem.{Pair};
+
+    ghost Value = { Pair };
+
+    ghost view = { λ q. record { guard = q.guard; clause = q.clause } };
+}
+
+/// The problem.
+#[derive(Drop)]
+pub struct Store {
+    alloc: Global,
+    vars: u32,
+    plain: Vec<Clause>,
+    pairs: Vec<Guarded>,
+    active: Vec<Var>,
+    freed: Vec<Var>,
+}
+
+impl Model for Store {
+    ghost use Rattle.std.specs.Prelude.{◌≤◌};
+    ghost use Rattle.gi_lit.specs.Problem.{Problem};
+    ghost use Rattle.gi_model.specs.Limits.{most_vars};
+
+    ghost Value = { Problem };
+
+    ghost invariant = { λ s. s.vars ≤ most_vars };
+
+    ghost view = { λ s. record { vars = s.vars; plain = s.plain.items; pairs = s.pairs.items; active = s.active.items; freed = s.freed.items } };
+}
+
+/// What is left of the room once the clauses are in; None where they don't fit.
+fn left_by_clauses(clauses: &[Clause], room: u64) -> Option<u64>
+    ensures some { IfSome result (λ left. left + sum_by length clauses.now ≡ room) }
+    ensures none { IfNone result (room < sum_by length clauses.now) }
+{
+    let mut left = room;
+    for clause in clauses {
+        left = left.checked_sub(clause.len() as u64)?;
+    }
+    Some(left)
+}
+
+fn left_by_pairs(pairs: &[Guarded], room: u64) -> Option<u64>
+    ensures some { IfSome result (λ left. left + sum_by (λ (q : Pair). length q.clause) pairs.now ≡ room) }
+    ensures none { IfNone result (room < sum_by (λ (q : Pair). length q.clause) pairs.now) }
+{
+    let mut left = room;
+    for pair in pairs {
+        left = left.checked_sub(pair.clause.len() as u64)?;
+    }
+    Some(left)
+}
+
+/// The pairs of other guards, in order.
+#[tactic(auto, unfolding(gi_lit::specs::Problem::without_pairs))]
+fn without_pairs(alloc: Global, pairs: Vec<Guarded>, g: Var) -> Result<Vec<Guarded>, AllocError>
+    ensures { IfOk result (λ kept. kept.items ≡ without_pairs g pairs.items) }
+{
+    let unwanted = g.index();
+    pairs
+        .into_iter()
+        .filter(|q| q.guard.index() != unwanted)
+        .collect(alloc)
+}
+
+impl Store {
+    pub fn new(alloc: Global) -> Store
+        ensures { result ≡ empty_problem }
+    {
+        Store {
+            alloc,
+            vars: 0,
+            plain: Vec::new(alloc),
+            pairs: Vec::new(alloc),
+            active: Vec::new(alloc),
+            freed: Vec::new(alloc),
+        }
+    }
+
+    pub fn vars(&self) -> u32
+        ensures { result ≡ self.now.vars }
+    {
+        self.vars
+    }
+
+    pub fn is_problem_var(&self, v: Var) -> bool
+        ensures { result ≡ is_problem_var self.now v }
+    {
+        let index = v.index();
+        index >= 1
+            && index <= self.vars
+            && !has_var(self.active.as_slice(), v)
+            && !has_var(self.freed.as_slice(), v)
+    }
+
+    pub fn is_active(&self, g: Var) -> bool
+        ensures { result ≡ has self.now.active g }
+    {
+        has_var(self.active.as_slice(), g)
+    }
+
+    pub fn is_usable(&self, l: Lit) -> bool
+        ensures { result ≡ is_usable self.now l }
+    {
+        self.is_problem_var(l.var()) || l.var().index() > self.vars
+    }
+
+    pub fn is_guard_lit(&self, l: Lit) -> bool
+        ensures { result ≡ is_guard_lit self.now l }
+    {
+        let code = l.code();
+        code == 2 * (code / 2) && has_var(self.active.as_slice(), l.var())
+    }
+
+    pub fn some_unusable(&self, lits: &[Lit]) -> bool
+        ensures { result ≡ some_unusable self.now lits.now }
+    {
+        lits.iter().any(|l| !self.is_usable(*l))
+    }
+
+    pub fn some_unassumable(&self, lits: &[Lit]) -> bool
+        ensures { result ≡ list_any (λ l. not (is_usable self.now l || is_guard_lit self.now l)) lits.now }
+    {
+        lits.iter()
+            .any(|l| !(self.is_usable(*l) || self.is_guard_lit(*l)))
+    }
+
+    /// Whether one clause more, with these literals, would be too much.
+    pub fn is_full(&self, clause: &[Lit]) -> bool
+        ensures { result ≡ is_full self.now clause.now }
+    {
+        let clauses = self.plain.len() as u128 + self.pairs.len() as u128 + 1;
+        top_variable(clause) > MAX_VAR || clauses > 4_194_304 || self.lacks_lits(clause.len())
+    }
+
+    /// Whether so many literals more would be too many.
+    fn lacks_lits(&self, count: usize) -> bool
+        ensures { result ≡ nat_lt most_lits (lit_count self.now + count) }
+    {
+        let room = match 67_108_864u64.checked_sub(count as u64) {
+            Some(room) => room,
+            None => return true,
+        };
+        match left_by_clauses(self.plain.as_slice(), room) {
+            Some(left) => left_by_pairs(self.pairs.as_slice(), left).is_none(),
+            None => true,
+        }
+    }
+
+    /// Whether no guard is left to hand out.
+    pub fn lacks_guard(&self) -> bool
+        ensures { result ≡ ((length self.now.freed == 0) && nat_le most_vars self.now.vars) }
+    {
+        self.freed.len() == 0 && self.vars >= MAX_VAR
+    }
+
+    pub fn grow(&mut self, n: u32)
+        requires { n ≤ most_vars }
+        ensures { self.new ≡ grown n self.old }
+    {
+        if n > self.vars {
+            self.vars = n;
+        }
+    }
+
+    pub fn add(&mut self, clause: &Clause) -> Result<(), AllocError>
+        ensures { OnOk result (self.new ≡ with_clause clause.now self.old) }
+    {
+        self.plain.push(clause.copy()?)?;
+        self.grow(top_variable(clause.as_slice()));
+        Ok(())
+    }
+
+    pub fn under(&mut self, guard: Var, clause: &Clause) -> Result<(), AllocError>
+        ensures { OnOk result (self.new ≡ with_pair guard clause.now self.old) }
+    {
+        let pair = Guarded {
+            guard,
+            clause: clause.copy()?,
+        };
+        self.pairs.push(pair)?;
+        self.grow(top_variable(clause.as_slice()));
+        Ok(())
+    }
+
+    /// Hands out the guard that was freed last, else a new variable.
+    pub fn new_guard(&mut self) -> Result<Var, AllocError>
+        requires { ((length self.old.freed == 0) && nat_le most_vars self.old.vars) ≡ false }
+        ensures guard { IfOk result (λ g. g ≡ next_guard self.old) }
+        ensures active { OnOk result (self.new ≡ with_guard self.old) }
+    {
+        if self.freed.len() > 0 {
+            let g = self.freed.remove(0);
+            self.active.push(g)?;
+            return Ok(g);
+        }
+        match Var::new(self.vars + 1) {
+            Some(g) => {
+                self.active.push(g)?;
+                self.vars += 1;
+                Ok(g)
+            }
+            None => unreachable!(),
+        }
+    }
+
+    /// Takes a guard away, and its pairs.
+    pub fn drop_guard(&mut self, g: Var) -> Result<(), AllocError>
+        ensures { OnOk result (self.new ≡ without_guard g self.old) }
+    {
+        let pairs = mem::replace(&mut self.pairs, Vec::new(self.alloc));
+        self.pairs = without_pairs(self.alloc, pairs, g)?;
+        let active = mem::replace(&mut self.active, Vec::new(self.alloc));
+        self.active = without(self.alloc, active, g)?;
+        self.freed.insert(0, g)?;
+        Ok(())
+    }
+}
