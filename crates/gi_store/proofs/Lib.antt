@@ -8,3 +8,5 @@ mod Kept
 mod Reading
 mod Resting
 mod Editing
+mod Counting
+mod Counted

@@ -76,7 +76,7 @@ module _ (s m t : Slab (List ℕ)) (p q l : List ℕ) (g : ℕ) (h : IsStored s 
   pub learnt_left : filter (keeps g m) l ≡ filter (keeps g s) l
   learnt_left = filter_alike (keeps g m) (keeps g s) l same_keeps
 
-  left : (k : ℕ) → Contains (p ++ (filter (keeps g s) q ++ filter (keeps g s) l)) k → get t k ≡ get s k
+  pub left : (k : ℕ) → Contains (p ++ (filter (keeps g s) q ++ filter (keeps g s) l)) k → get t k ≡ get s k
   left k c = elim (Contains-append_cases p (filter (keeps g s) q ++ filter (keeps g s) l) k c) [
     | inl a ↦ second k (λ x. IsDistinct-apart p (q ++ l) k h.keys.distinct a (Contains-append_right q l k x.0)) ∙ first k (λ x. IsDistinct-apart p (q ++ l) k h.keys.distinct a (Contains-append_left q l k x.0))
     | inr r ↦ elim (Contains-append_cases (filter (keeps g s) q) (filter (keeps g s) l) k r) [
@@ -84,6 +84,10 @@ module _ (s m t : Slab (List ℕ)) (p q l : List ℕ) (g : ℕ) (h : IsStored s 
       | inr b ↦ let f = Contains-filter (keeps g s) l k b in second k (λ x. both_ways (names g (clause_at m k)) (not-true _ (same_keeps k f.0 ∙ f.1)) x.1) ∙ in_l k f.0
     ]
   ]
+
+  -- so it is after the first part, too
+  pub left_first : (k : ℕ) → Contains (filter (keeps g s) q) k → get m k ≡ get s k
+  left_first k c = let f = Contains-filter (keeps g s) q k c in first k (λ x. both_ways (names g (clause_at s k)) (not-true _ f.1) x.1)
 
   was : IsStored s p (filter (keeps g s) q) (filter (keeps g s) l)
   was = fewer s p q l (filter (keeps g s) q) (filter (keeps g s) l) h

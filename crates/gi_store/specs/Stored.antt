@@ -2,7 +2,8 @@
 use Rattle.std.specs.Prelude.{◌≡◌, ℕ, ◌+◌, ◌-◌, ◌/◌, ◌≤◌, List, [], ◌++◌, length, map, take, reverse, slice_index_or, Contains, IsSome, unwrap_or}
 use Rattle.slab.specs.Slab.{Slab, get}
 use Rattle.gi_lit.specs.Lists.{IsDistinct}
-use Rattle.gi_store.specs.Held.{Entry, PairEntry, Held, full_entry}
+use Rattle.gi_lit.specs.Problem.{lit_count}
+use Rattle.gi_store.specs.Held.{Entry, PairEntry, Held, full_entry, problem_of}
 use Rattle.gi_store.specs.Whole.{IsWhole, IsTable}
 use Rattle.gi_store.specs.declared.kind.VarKind.{VarKind}
 
@@ -47,3 +48,12 @@ pub record IsKept (kinds : List VarKind) (slab : Slab (List ℕ)) (plain pairs l
   pub whole : IsWhole (held_of (length kinds) slab plain pairs learnt active freed)
   pub table : IsTable (held_of (length kinds) slab plain pairs learnt active freed) kinds
   pub rooms : length freed + length active ≤ room
+
+-- how many literals a pair's clause has, its guard left out
+abbrev pub pair_length : Slab (List ℕ) → ℕ → ℕ
+pair_length slab k = length (clause_at slab k) - 1
+
+-- and with its count of literals
+pub record IsCounted (kinds : List VarKind) (slab : Slab (List ℕ)) (plain pairs learnt active freed : List ℕ) (room lits : ℕ) : Type 0 where
+  pub kept : IsKept kinds slab plain pairs learnt active freed room
+  pub count : lit_count (problem_of (held_of (length kinds) slab plain pairs learnt active freed)) ≡ lits

@@ -1,8 +1,8 @@
-ghost use Rattle.std.specs.Prelude.{◌≡◌, ◌<◌, ◌≤◌, ◌+◌, ℕ, true, None, Some, [], ◌∷◌, ◌++◌, not, filter, drop, length, take, Contains, IfOk, OnErr};
+ghost use Rattle.std.specs.Prelude.{◌≡◌, ◌<◌, ◌≤◌, ◌+◌, ℕ, true, None, Some, [], ◌∷◌, ◌++◌, not, filter, drop, length, take, Contains, IfOk, OnErr, sum_by};
 ghost use Rattle.slab.specs.Slab.{get, Updates};
 ghost use Rattle.gi_lit.specs.Problem.{names};
 ghost use Rattle.gi_lit.specs.Lists.{IsDistinct};
-ghost use Rattle.gi_store.specs.Stored.{clause_at};
+ghost use Rattle.gi_store.specs.Stored.{clause_at, pair_length};
 
 use crate::key::Key;
 use gi_lit::{Lit, Lits, Var};
@@ -81,4 +81,33 @@ pub(crate) fn insert(
     let key = Key::of(slots.insert_reserved(clause));
     keys.push_reserved(key);
     Ok(key)
+}
+
+/// How many literals a pair's clause has, its guard's left out.
+fn pair_length(slots: &Slab<Lits>, key: Key) -> u64
+    ensures { result ≡ pair_length slots.now key }
+{
+    match slots.get(key.slot()) {
+        Some(clause) => (clause.len() as u64).saturating_sub(1),
+        None => 0,
+    }
+}
+
+/// How many literals the clauses of these pairs have, the guards' left out.
+pub(crate) fn count_pairs(slots: &Slab<Lits>, keys: &[Key]) -> u64
+    requires { sum_by (pair_length slots.now) keys.now < 18446744073709551616 }
+    ensures { result ≡ sum_by (pair_length slots.now) keys.now }
+{
+    let mut count = 0;
+    for key in keys {
+        count += pair_length(slots, *key);
+    }
+    count
+}
+
+/// The count of literals with so many more.
+pub(crate) fn more_lits(lits: u64, more: usize) -> Result<u64, AllocError>
+    ensures { IfOk result (λ n. n ≡ lits + more) }
+{
+    lits.checked_add(more as u64).ok_or(AllocError)
 }

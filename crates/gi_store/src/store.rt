@@ -1,5 +1,5 @@
 ghost use Rattle.std.specs.Prelude.{◌≡◌, ◌≤◌, ◌<◌, ◌+◌, ◌/◌, ℕ, List, [], ◌∷◌, ◌++◌, length, max, All, Contains, IfOk, OnOk, OnErr, IsTrue, ◌↔◌, option_copied};
-ghost use Rattle.gi_lit.specs.Problem.{IsPlain, IsProblemVar};
+ghost use Rattle.gi_lit.specs.Problem.{IsPlain, IsProblemVar, lit_count};
 ghost use Rattle.gi_store.specs.Held.{Held, Keeps, IsLive, Holds, IsWithin, problem_of, known_of, keys_of, entries, with_plain, with_under, with_learnt, without_guard_of, trimmed, at_place};
 ghost use Rattle.gi_store.specs.Whole.{IsWhole, IsKind};
 ghost use Rattle.gi_lit.specs.Lists.{IsDistinct};
@@ -9,7 +9,7 @@ use crate::guards::{add_kinds, drop_var, make_room, take_guard};
 use crate::key::Key;
 use crate::kind::VarKind;
 use crate::new_guard::NewGuard;
-use crate::slots::{forget_first, forget_naming, insert};
+use crate::slots::{count_pairs, forget_first, forget_naming, insert, more_lits};
 use gi_lit::{Lit, Lits, MAX_VAR, Var};
 use slab::Slab;
 use std::alloc::{AllocError, Global};
@@ -27,18 +27,19 @@ pub struct Store {
     plain: Vec<Key>,
     pairs: Vec<Key>,
     learnt: Vec<Key>,
+    lits: u64,
 }
 
 impl Model for Store {
     ghost use Rattle.std.specs.Prelude.{length, vec_capacity};
     ghost use Rattle.gi_store.specs.Held.{Held};
-    ghost use Rattle.gi_store.specs.Stored.{held_of, IsKept};
+    ghost use Rattle.gi_store.specs.Stored.{held_of, IsCounted};
 
     ghost Value = { Held };
 
     ghost view = { λ s. held_of (length s.kinds.items) s.slots s.plain.items s.pairs.items s.learnt.items s.active.items s.freed.items };
 
-    ghost invariant = { λ s. IsKept s.kinds.items s.slots s.plain.items s.pairs.items s.learnt.items s.active.items s.freed.items (vec_capacity s.freed) };
+    ghost invariant = { λ s. IsCounted s.kinds.items s.slots s.plain.items s.pairs.items s.learnt.items s.active.items s.freed.items (vec_capacity s.freed) s.lits };
 }
 
 impl Store {
@@ -55,6 +56,7 @@ impl Store {
             plain: Vec::new(alloc),
             pairs: Vec::new(alloc),
             learnt: Vec::new(alloc),
+            lits: 0,
         }
     }
 
@@ -81,7 +83,9 @@ impl Store {
         ensures err { OnErr result (self.new ≡ self.old) }
     {
         let clause = Lits::from_vec(Vec::from_slice(self.alloc, c)?);
+        let more = more_lits(self.lits, c.len())?;
         let key = insert(&mut self.slots, &mut self.plain, clause)?;
+        self.lits = more;
         Ok(key)
     }
 
@@ -99,7 +103,9 @@ impl Store {
         let mut lits = Vec::new(self.alloc);
         lits.extend_from_slice(c)?;
         lits.push(guard.negative())?;
+        let more = more_lits(self.lits, c.len())?;
         let key = insert(&mut self.slots, &mut self.pairs, Lits::from_vec(lits))?;
+        self.lits = more;
         Ok(key)
     }
 
@@ -143,7 +149,10 @@ impl Store {
         ensures after { self.new ≡ without_guard_of guard self.old }
         ensures keeps { Keeps self.old self.new }
     {
+        let before = count_pairs(&self.slots, self.pairs.as_slice());
         forget_naming(&mut self.slots, &mut self.pairs, guard);
+        let after = count_pairs(&self.slots, self.pairs.as_slice());
+        self.lits = self.lits - before + after;
         forget_naming(&mut self.slots, &mut self.learnt, guard);
         drop_var(&mut self.active, guard);
         self.kinds[(guard.index() - 1) as usize] = VarKind::Freed;
@@ -223,6 +232,13 @@ impl Store {
         ensures { result ≡ length self.now.plain + length self.now.pairs }
     {
         self.plain.len() as u64 + self.pairs.len() as u64
+    }
+
+    /// How many literals the plain clauses and the pairs have as given, so the guards' left out. In constant time.
+    pub fn lits(&self) -> u64
+        ensures { result ≡ lit_count (problem_of self.now) }
+    {
+        self.lits
     }
 
     /// How many learnt clauses there are.

@@ -81,10 +81,12 @@ fn a_guard_goes_with_its_clauses_and_comes_again(rt: HostRuntime) -> Result<(), 
     learn(rt.alloc(), &mut store, &[2])?;
     assert_eq!(rt; store.known(), 2);
     assert_eq!(rt; store.problem(), 2);
+    assert_eq!(rt; store.lits(), 3);
     assert_eq!(rt; store.kind(guard), VarKind::Active);
     remove_guard(&mut store, guard)?;
     assert_eq!(rt; store.known(), 1);
     assert_eq!(rt; store.problem(), 1);
+    assert_eq!(rt; store.lits(), 2);
     assert!(rt; knows(&store, 1, &[2]));
     assert!(rt; store.known_at(0).is_none());
     assert!(rt; store.known_at(2).is_none());

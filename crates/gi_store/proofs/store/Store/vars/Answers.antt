@@ -5,4 +5,4 @@ use Rattle.gi_store.proofs.Reading.{distinct_keys}
 use Rattle.gi_store.proofs.store.Store.vars.Goals as goal
 
 pub returns-clause-keys : goal.returns-clause-keys
-returns-clause-keys c = subst (λ (h : Held). IsDistinct (keys_of h)) c.self.view_is (distinct_keys c.self.inside.slots _ _ _ (length c.self.inside.kinds.items) c.self.inside.active.items c.self.inside.freed.items c.self.invariant.stored)
+returns-clause-keys c = subst (λ (h : Held). IsDistinct (keys_of h)) c.self.view_is (distinct_keys c.self.inside.slots _ _ _ (length c.self.inside.kinds.items) c.self.inside.active.items c.self.inside.freed.items c.self.invariant.kept.stored)
