@@ -1,0 +1,4 @@
+pub mod Indexing
+pub mod Values
+pub mod Levels
+pub mod Laying

@@ -1,0 +1,52 @@
+use Rattle.std.proofs.Common.{◌≡◌, ◌+◌, ◌-◌, ◌<◌, ◌≤◌, ◌/◌, length, not, sym, ap, ◌∙◌, arith}
+use Rattle.gi_prop.proofs.Indexing.{room_left}
+use Rattle.gi_prop.proofs.Values.{even_is_not_odd}
+use Rattle.gi_prop.proofs.Laying.{laid_push}
+use Rattle.gi_prop.proofs.trail.Trail.assign.Goals as goal
+
+pub push_reserved-requires : goal.push_reserved-requires
+push_reserved-requires c =
+    let big : 1 ≤ c.args.l / 2 = omega (arith, c.index.ensures.low) in
+    let within : c.args.l / 2 ≤ length c.self.inside.places.items = rw (← c.self.view_is) at c.requires.within in
+    let r = room_left _ _ c.self.invariant.table.indexed c.args.l big within (rw (← c.self.view_is) at c.requires.free) in
+    omega (arith, r, c.self.invariant.leveled.count, c.self.invariant.levels_fit, c.self.inside.levels.ok.0)
+
+pub push_reserved-requires-2 : goal.push_reserved-requires-2
+push_reserved-requires-2 c =
+    let big : 1 ≤ c.args.l / 2 = omega (arith, c.index.ensures.low) in
+    let within : c.args.l / 2 ≤ length c.self.inside.places.items = rw (← c.self.view_is) at c.requires.within in
+    let r = room_left _ _ c.self.invariant.table.indexed c.args.l big within (rw (← c.self.view_is) at c.requires.free) in
+    omega (arith, r, c.self.invariant.lits_fit, c.self.inside.lits.ok.0)
+
+pub push_reserved-requires-3 : goal.push_reserved-requires-3
+push_reserved-requires-3 c =
+    let big : 1 ≤ c.args.l / 2 = omega (arith, c.index.ensures.low) in
+    let within : c.args.l / 2 ≤ length c.self.inside.places.items = rw (← c.self.view_is) at c.requires.within in
+    let r = room_left _ _ c.self.invariant.table.indexed c.args.l big within (rw (← c.self.view_is) at c.requires.free) in
+    omega (arith, r, c.self.invariant.aligned, c.self.invariant.reasons_fit, c.self.inside.reasons.ok.0)
+
+pub invariant_of-self : goal.invariant_of-self
+invariant_of-self c =
+    let big : 1 ≤ c.args.l / 2 = omega (arith, c.index.ensures.low) in
+    let within : c.args.l / 2 ≤ length c.self.inside.places.items = rw (← c.self.view_is) at c.requires.within in
+    laid_push _ _ _ _ _ _ _ _ _ _ _ c.self.invariant c.args.l _ _ _ _ c.args.why _ _ _ _ _ _
+    (ap (λ x. x - 1) (c.index.ensures.value ∙ c.var.ensures))
+    (omega (arith, c.len.ensures, c.self.inside.lits.ok.0))
+    (omega (arith, c.len-2.ensures, c.self.inside.marks.ok.0))
+    (ap not c.is_negative.ensures ∙ even_is_not_odd c.args.l)
+    big
+    within
+    (rw (← c.self.view_is) at c.requires.free)
+    c.push_reserved-2.ensures.items
+    c.push_reserved-3.ensures.items
+    c.push_reserved.ensures.items
+    (omega (arith, c.push_reserved-2.ensures.capacity))
+    (omega (arith, c.push_reserved-3.ensures.capacity))
+    (omega (arith, c.push_reserved.ensures.capacity))
+
+pub returns-clause-room : goal.returns-clause-room
+returns-clause-room c =
+    let big : 1 ≤ c.args.l / 2 = omega (arith, c.index.ensures.low) in
+    let within : c.args.l / 2 ≤ length c.self.inside.places.items = rw (← c.self.view_is) at c.requires.within in
+    let r = room_left _ _ c.self.invariant.table.indexed c.args.l big within (rw (← c.self.view_is) at c.requires.free) in
+    rw (← c.self.view_is) r

@@ -1,0 +1,23 @@
+use Rattle.std.proofs.Common.{◌≡◌, ◌<◌, ◌≤◌, length, take, get_or, ap, ◌∙◌, arith}
+use Rattle.std.proofs.lemmas.List.{get_or_read}
+use Rattle.gi_prop.proofs.Laying.{laid_cut}
+use Rattle.gi_prop.proofs.trail.Trail.cancel_to.Goals as goal
+
+pub invariant_of-self : goal.invariant_of-self
+invariant_of-self c =
+    let lt : c.args.level < length c.self.inside.marks.items = (let x = c.if-level-len.false in omega (arith, x, c.len.ensures, c.self.inside.marks.ok.0)) in
+    let hlt : c.args.level < length c.self.inside.heads.items = omega (arith, c.self.invariant.begun.aligned) in
+    laid_cut _ _ _ _ _ _ _ _ _ _ _ c.self.invariant c.args.level c.index-len.result.now c.index.result.now _ _ _ _ _ _ _ _ _ _
+    lt
+    (get_or_read c.self.inside.marks.items c.args.level c.index-len.result.now lt c.index-len.ensures 0)
+    (get_or_read c.self.inside.heads.items c.args.level c.index.result.now hlt c.index.ensures 0)
+    c.unwind.ensures.table
+    c.unwind.ensures.places
+    c.unwind.ensures.lits
+    c.truncate-3.ensures.items
+    c.truncate-4.ensures.items
+    c.truncate.ensures.items
+    c.truncate-2.ensures.items
+    (omega (arith, c.unwind.ensures.capacity))
+    (omega (arith, c.truncate-3.ensures.capacity))
+    (omega (arith, c.truncate-4.ensures.capacity))

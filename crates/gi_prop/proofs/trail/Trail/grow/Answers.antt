@@ -1,0 +1,15 @@
+use Rattle.std.proofs.Common.{◌≡◌, ◌+◌, ◌-◌, ◌≤◌, ◌++◌, replicate, None, length, ap, ◌∙◌, arith}
+use Rattle.gi_prop.proofs.Laying.{laid_grow}
+use Rattle.gi_prop.proofs.trail.Trail.grow.Goals as goal
+
+pub invariant_of-self-2 : goal.invariant_of-self-2
+invariant_of-self-2 c =
+    laid_grow _ _ _ _ _ _ _ _ _ _ _ c.self.invariant c.saturating_sub-more.result _ _ _ _ _ _ _ _
+    (c.add_places.ensures ∙ ap (λ xs. xs ++ replicate c.saturating_sub-more.result None) c.in_ok-reserve-4.ensures.items)
+    (c.add_values.ensures ∙ ap (λ xs. xs ++ replicate c.saturating_sub-more.result None) c.in_ok-reserve-5.ensures.items)
+    c.in_ok-reserve.ensures.items
+    c.in_ok-reserve-2.ensures.items
+    c.in_ok-reserve-3.ensures.items
+    (let a = c.in_ok-reserve.ensures.ok in omega (arith, a, c.in_ok-reserve.ensures.capacity, c.saturating_sub-more.ensures, c.saturating_sub-room.ensures, c.len.ensures, c.len-2.ensures, c.self.invariant.lits_fit, c.self.inside.places.ok.0, c.self.inside.lits.ok.0))
+    (let a = c.in_ok-reserve-2.ensures.ok in omega (arith, a, c.in_ok-reserve-2.ensures.capacity, c.saturating_sub-more.ensures, c.saturating_sub-room.ensures, c.len.ensures, c.len-2.ensures, c.self.invariant.reasons_fit, c.self.invariant.aligned, c.self.inside.places.ok.0, c.self.inside.lits.ok.0, c.self.inside.reasons.ok.0))
+    (let a = c.in_ok-reserve-3.ensures.ok in omega (arith, a, c.in_ok-reserve-3.ensures.capacity, c.saturating_sub-more.ensures, c.saturating_sub-room.ensures, c.len.ensures, c.len-2.ensures, c.self.invariant.levels_fit, c.self.invariant.leveled.count, c.self.inside.places.ok.0, c.self.inside.lits.ok.0, c.self.inside.levels.ok.0))
