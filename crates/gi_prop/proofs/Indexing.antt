@@ -110,7 +110,8 @@ module _ (places : List (Option ℕ)) (lits : List ℕ) (h : IsIndexed places li
         opposite-differs l (sym q ∙ sym (ap (λ (k : ℕ). get_or lits k 0) same) ∙ p);
   }
 
-in_range : (places : List (Option ℕ)) (i p : ℕ) → get_or places i None ≡ Some p → i < length places
+-- what is read within a list is read at one of its places
+pub in_range : {A : Type 0} (places : List (Option A)) (i : ℕ) (p : A) → get_or places i None ≡ Some p → i < length places
 in_range places i p e = elim (cases_lt i (length places)) [ inl lt ↦ lt | inr le ↦ let n : get_or places i None ≡ None = get_or_past places i None le in cc ]
 
 module _ (places : List (Option ℕ)) (front : List ℕ) (l : ℕ) (h : IsIndexed places (front ++ l ∷ [])) where

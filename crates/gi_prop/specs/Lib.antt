@@ -1,2 +1,5 @@
 pub mod Assigned
 pub mod Laid
+pub mod Attached
+pub mod Scan
+pub mod Laws

@@ -1,4 +1,6 @@
 ghost use Rattle.std.specs.Prelude.{◌≡◌, ℕ, ◌+◌, ◌-◌, ◌*◌, ◌/◌, ◌≤◌, ◌<◌, [], ◌∷◌, ◌++◌, length, max, None, slice_index, slice_index_or, OnOk, OnErr, MatchOption};
+ghost use Rattle.gi_store.specs.Held.{Held};
+ghost use Rattle.gi_prop.specs.Attached.{Attached, Goes};
 ghost use Rattle.gi_prop.specs.Assigned.{Assigned, no_lits, HasValue, StandsAt, IsUnassigned, IsLevelAt, with_lit, with_level, cancelled, IsTrail};
 
 use crate::places::{add_places, add_values, unwind};
@@ -53,6 +55,7 @@ impl Trail {
     /// Makes the count of variables at least `n`, with room for a literal of each. Unchanged after an error.
     pub fn grow(&mut self, n: u32) -> Result<(), AllocError>
         ensures ok { OnOk result (self.new ≡ record self.old { vars = max self.old.vars n }) }
+        ensures goes { (p : Attached) (s : Held) → Goes p s self.old → Goes p s self.new }
         ensures err { OnErr result (self.new ≡ self.old) }
     {
         let more = (n as usize).saturating_sub(self.places.len());
@@ -91,6 +94,7 @@ impl Trail {
         requires free { HasValue self.old.lits l None }
         ensures added { self.new ≡ with_lit l why self.old }
         ensures room { length self.old.lits < self.old.vars }
+        ensures goes { (p : Attached) (s : Held) → Goes p s self.old → Goes p s self.new }
     {
         let at = (l.var().index() - 1) as usize;
         self.places[at] = Some(self.lits.len());
@@ -104,6 +108,7 @@ impl Trail {
     pub fn push_level(&mut self) -> Result<(), AllocError>
         requires { length self.old.marks < 4294967295 }
         ensures ok { OnOk result (self.new ≡ with_level self.old) }
+        ensures goes { (p : Attached) (s : Held) → Goes p s self.old → Goes p s self.new }
         ensures err { OnErr result (self.new ≡ self.old) }
     {
         self.marks.reserve(1)?;
@@ -132,7 +137,8 @@ impl Trail {
     /// Takes the levels above this one away, with their literals. Takes no memory, and time in the number of literals that go.
     pub fn cancel_to(&mut self, level: u32)
         requires { level ≤ length self.old.marks }
-        ensures { self.new ≡ cancelled level self.old }
+        ensures after { self.new ≡ cancelled level self.old }
+        ensures goes { (p : Attached) (s : Held) → Goes p s self.old → Goes p s self.new }
     {
         let level = level as usize;
         if level >= self.marks.len() {
@@ -149,7 +155,8 @@ impl Trail {
 
     /// Takes every literal and level away, those of level 0 too. Takes no memory.
     pub fn clear(&mut self)
-        ensures { self.new ≡ no_lits self.old.vars }
+        ensures after { self.new ≡ no_lits self.old.vars }
+        ensures goes { (p : Attached) (s : Held) → Goes p s self.old → Goes p s self.new }
     {
         unwind(&mut self.lits, &mut self.places, &mut self.values, 0);
         self.reasons.clear();

@@ -1,6 +1,7 @@
-use Rattle.std.proofs.Common.{◌≡◌, ◌+◌, ◌-◌, ◌<◌, ◌≤◌, ◌/◌, length, not, sym, ap, ◌∙◌, arith}
+use Rattle.std.proofs.Common.{◌≡◌, ◌+◌, ◌-◌, ◌<◌, ◌≤◌, ◌/◌, length, length-set, not, sym, ap, ◌∙◌, arith}
 use Rattle.gi_prop.proofs.Indexing.{room_left}
 use Rattle.gi_prop.proofs.Values.{even_is_not_odd}
+use Rattle.gi_prop.proofs.Adding.{goes_view}
 use Rattle.gi_prop.proofs.Laying.{laid_push}
 use Rattle.gi_prop.proofs.trail.Trail.assign.Goals as goal
 
@@ -50,3 +51,6 @@ returns-clause-room c =
     let within : c.args.l / 2 ≤ length c.self.inside.places.items = rw (← c.self.view_is) at c.requires.within in
     let r = room_left _ _ c.self.invariant.table.indexed c.args.l big within (rw (← c.self.view_is) at c.requires.free) in
     rw (← c.self.view_is) r
+
+pub returns-clause-goes : goal.returns-clause-goes
+returns-clause-goes c = goes_view _ _ _ c.self.view_is (simp length-set (omega arith))

@@ -1,5 +1,6 @@
 use Rattle.std.proofs.Common.{◌≡◌, ◌<◌, ◌≤◌, length, take, get_or, ap, ◌∙◌, arith}
 use Rattle.std.proofs.lemmas.List.{get_or_read}
+use Rattle.gi_prop.proofs.Adding.{goes_view}
 use Rattle.gi_prop.proofs.Laying.{laid_cut}
 use Rattle.gi_prop.proofs.trail.Trail.cancel_to.Goals as goal
 
@@ -21,3 +22,6 @@ invariant_of-self c =
     (omega (arith, c.unwind.ensures.capacity))
     (omega (arith, c.truncate-3.ensures.capacity))
     (omega (arith, c.truncate-4.ensures.capacity))
+
+pub returns-clause-goes : goal.returns-clause-goes
+returns-clause-goes c = goes_view _ _ _ c.self.view_is (omega (arith, c.unwind.ensures.places))

@@ -1,4 +1,5 @@
 use Rattle.std.proofs.Common.{◌≡◌, ◌<◌, ◌++◌, ◌∷◌, [], length, ap, ◌∙◌, arith}
+use Rattle.gi_prop.proofs.Adding.{goes_view}
 use Rattle.gi_prop.proofs.Laying.{laid_mark}
 use Rattle.gi_prop.proofs.trail.Trail.push_level.Goals as goal
 
@@ -10,3 +11,6 @@ invariant_of-self-2 c =
     below
     (c.push_reserved.ensures.items ∙ ap (λ xs. xs ++ c.len.result ∷ []) c.in_ok-reserve.ensures.items)
     (c.push_reserved-2.ensures.items ∙ ap (λ xs. xs ++ c.self.inside.head ∷ []) c.in_ok-reserve-2.ensures.items)
+
+pub returns-clause-goes : goal.returns-clause-goes
+returns-clause-goes c = goes_view _ _ _ c.self.view_is (omega arith)
