@@ -1,10 +1,10 @@
-use Rattle.std.proofs.Common.{◌≡◌, ◌≢◌, ℕ, ◌+◌, ◌-◌, ◌/◌, ◌<◌, ◌≤◌, Option, Some, None, List, [], ◌∷◌, ◌++◌, length, take, get_or, map, refl, sym, ap, ◌∙◌, subst, arith, ◌⊎◌, inl, inr, length-append, append_assoc}
-use Rattle.std.specs.List.{All, Contains}
-use Rattle.std.proofs.lemmas.Bool.{cases_lt, cases_eq}
-use Rattle.std.proofs.lemmas.List.{get_or_append_left, get_or_push, get_or_default, get_or-map, length-map, take-append-le, take_all, append-nil}
+use Rattle.std.proofs.Common.{◌≡◌, ℕ, ◌+◌, ◌<◌, ◌≤◌, Option, Some, None, List, [], ◌∷◌, ◌++◌, length, take, get_or, refl, sym, ap, ◌∙◌, subst, arith, ◌⊎◌, inl, inr, length-append, append_assoc}
+use Rattle.std.specs.List.{Contains}
+use Rattle.std.proofs.lemmas.Bool.{cases_lt}
+use Rattle.std.proofs.lemmas.List.{get_or_append_left, get_or_push, get_or-map, length-map, take-append-le, take_all, append-nil}
 use Rattle.std.proofs.lemmas.List.Elements.{Contains-get_or}
-use Rattle.gi_lit.specs.Closure.{Forces, IsSettled, IsDerivation, IsStep}
-use Rattle.gi_store.specs.Held.{Entry, Held, Holds, IsLive, Keeps, IsWithin, entries, keys_of}
+use Rattle.gi_lit.specs.Closure.{Forces, IsSettled, IsDerivation}
+use Rattle.gi_store.specs.Held.{Entry, Held, Holds, IsLive, Keeps, entries}
 use Rattle.gi_prop.specs.Assigned.{Assigned, with_lit}
 use Rattle.gi_prop.specs.Attached.{Attached, IsAttached, HasClause, Goes, IsForcedAt, AddsForced, AreSettled}
 use Rattle.gi_prop.specs.Scan.{IsDone, AreSettledTo, HasPassed}

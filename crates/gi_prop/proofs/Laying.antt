@@ -1,9 +1,7 @@
-use Rattle.std.proofs.Common.{◌≡◌, ℕ, ◌+◌, ◌-◌, ◌/◌, ◌%◌, ◌==◌, ◌<◌, ◌≤◌, Bool, Option, Some, None, List, [], ◌∷◌, ◌++◌, length, take, get_or, set, replicate, refl, sym, ap, ◌∙◌, arith, length-append, length-set}
-use Rattle.std.specs.List.{count_by}
-use Rattle.std.specs.Option.{is_none}
+use Rattle.std.proofs.Common.{◌≡◌, ℕ, ◌+◌, ◌-◌, ◌/◌, ◌%◌, ◌==◌, ◌<◌, ◌≤◌, Bool, Option, Some, None, List, [], ◌∷◌, ◌++◌, length, take, get_or, set, replicate, sym, ◌∙◌, arith, length-append, length-set}
 use Rattle.std.proofs.lemmas.List.{length-take-le, length-replicate}
-use Rattle.gi_prop.specs.Assigned.{Assigned, HasValue, AreWithin, AreLevels, IsTrail}
-use Rattle.gi_prop.specs.Laid.{IsTable, AreLevelsOf, IsLaid}
+use Rattle.gi_prop.specs.Assigned.{HasValue, IsTrail}
+use Rattle.gi_prop.specs.Laid.{IsTable, IsLaid}
 use Rattle.gi_prop.proofs.Indexing.{IsIndexed-within, one_place, consistent}
 use Rattle.gi_prop.proofs.Values.{IsTable-push, IsTable-grow}
 use Rattle.gi_prop.proofs.Levels.{AreLevelsOf-push, AreLevelsOf-mark, AreLevelsOf-cut, AreLevels-push, AreLevels-mark, AreLevels-cut}

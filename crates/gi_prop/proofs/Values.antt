@@ -1,13 +1,13 @@
-use Rattle.std.proofs.Common.{◌≡◌, ◌≢◌, ℕ, zero, suc, ◌+◌, ◌-◌, ◌*◌, ◌/◌, ◌%◌, ◌==◌, ◌<◌, ◌≤◌, Bool, true, false, not, nat_eq, Option, Some, None, List, [], ◌∷◌, ◌++◌, length, get_or, set, replicate, refl, sym, ap, ◌∙◌, subst, arith, inl, inr, length-append, length-set, get_or-set_other, get_or-set_same}
+use Rattle.std.proofs.Common.{◌≡◌, ℕ, ◌+◌, ◌-◌, ◌/◌, ◌%◌, ◌==◌, ◌<◌, ◌≤◌, Bool, true, false, not, Option, Some, None, List, [], ◌∷◌, ◌++◌, length, get_or, set, replicate, refl, sym, ap, ◌∙◌, arith, inl, inr, length-append, length-set, get_or-set_other, get_or-set_same}
 use mathlib.Core.Bool.{beq}
-use Rattle.std.specs.List.{All, Contains}
-use Rattle.std.proofs.lemmas.List.{get_or_read, get_or_default, get_or_append_left, get_or_push, get_or_past, length-replicate}
-use Rattle.std.proofs.lemmas.Bool.{eqb-true, eqb-false, cases_lt, cases_eq}
+use Rattle.std.specs.List.{Contains}
+use Rattle.std.proofs.lemmas.List.{get_or_read, get_or_default, get_or_append_left, get_or_push, length-replicate}
+use Rattle.std.proofs.lemmas.Bool.{cases_eq}
 use Rattle.gi_lit.specs.Literals.{opposite}
 use Rattle.gi_lit.proofs.Literals.{opposite_from_var}
 use Rattle.gi_prop.specs.Assigned.{HasValue}
-use Rattle.gi_prop.specs.Laid.{IsIndexed, AreValues, IsTable, value_at}
-use Rattle.gi_prop.proofs.Indexing.{IsIndexed-push, IsIndexed-pop, IsIndexed-grow, last_in_range, value_none, place_free, none_more}
+use Rattle.gi_prop.specs.Laid.{IsIndexed, IsTable, value_at}
+use Rattle.gi_prop.proofs.Indexing.{IsIndexed-push, IsIndexed-pop, IsIndexed-grow, last_in_range, value_none, none_more}
 
 -- two literals of one variable with the same sign are one
 same_sign : (l m : ℕ) → m / 2 ≡ l / 2 → (m % 2 == 0) ≡ (l % 2 == 0) → m ≡ l

@@ -3,7 +3,7 @@ use Rattle.std.specs.Prelude.{◌≡◌, ℕ, ◌<◌, Option, Some, None, List,
 use Rattle.gi_lit.specs.Closure.{Forces, IsSettled, IsFalsified}
 use Rattle.gi_store.specs.Held.{Held, Holds}
 use Rattle.gi_prop.specs.Assigned.{Assigned, HasValue, with_lit}
-use Rattle.gi_prop.specs.Attached.{Attached, Goes, AddsForced}
+use Rattle.gi_prop.specs.Attached.{Goes, AddsForced}
 use Rattle.gi_prop.specs.declared.scan.Scan.{Scan}
 use Rattle.gi_prop.specs.declared.scan.Scan.TheVariants.{Settled, Forced, Falsified}
 

@@ -1,4 +1,4 @@
-use Rattle.std.proofs.Common.{◌≡◌, ◌<◌, ◌≤◌, ◌/◌, ◌-◌, ◌+◌, ◌++◌, ◌∷◌, [], arith, length, ℕ, ap, subst, sym, ◌∙◌, length-set, length-append, take, List, refl}
+use Rattle.std.proofs.Common.{◌≡◌, ◌<◌, ◌+◌, ◌++◌, ◌∷◌, [], arith, length, ap, sym, ◌∙◌, length-set, length-append, take, refl}
 use Rattle.std.proofs.lemmas.List.{take-take, take_at}
 use Rattle.gi_prop.specs.Laid.{IsTable}
 use Rattle.gi_prop.proofs.Values.{IsTable-pop}

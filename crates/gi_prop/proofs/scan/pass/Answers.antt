@@ -1,4 +1,4 @@
-use Rattle.std.proofs.Common.{◌≡◌, ◌<◌, ◌≤◌, length, None, get_or, sym, ◌∙◌, arith}
+use Rattle.std.proofs.Common.{◌≡◌, None, get_or, sym, ◌∙◌, arith}
 use Rattle.std.proofs.lemmas.List.{get_or_read}
 use Rattle.gi_prop.proofs.Slots.{attached_in}
 use Rattle.gi_prop.proofs.Adding.{goes_clause, passing_starts, passing_on}

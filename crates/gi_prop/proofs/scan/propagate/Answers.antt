@@ -1,6 +1,6 @@
-use Rattle.std.proofs.Common.{◌≡◌, ◌≤◌, length, refl, sym, ap, subst, arith}
+use Rattle.std.proofs.Common.{◌≡◌, length, refl, sym, ap, subst, arith}
 use Rattle.gi_prop.specs.Assigned.{Assigned}
-use Rattle.gi_prop.specs.Attached.{Attached, Goes, AddsForced, AreSettled}
+use Rattle.gi_prop.specs.Attached.{Goes, AreSettled}
 use Rattle.gi_prop.proofs.Adding.{AddsForced-refl, AddsForced-trans, AddsForced-look, goes_view, settled_all}
 use Rattle.gi_prop.proofs.scan.propagate.Goals as goal
 

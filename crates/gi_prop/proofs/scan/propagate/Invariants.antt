@@ -1,5 +1,5 @@
 use Rattle.std.proofs.Common.{length, ◌-◌}
-use Rattle.gi_prop.specs.Attached.{Attached, Goes, AddsForced}
+use Rattle.gi_prop.specs.Attached.{Goes, AddsForced}
 use Rattle.gi_prop.proofs.scan.propagate.Given as goal
 
 abbrev pub invariant-passes : goal.invariant-passes

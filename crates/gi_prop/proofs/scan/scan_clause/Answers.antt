@@ -1,6 +1,5 @@
-use Rattle.std.proofs.Common.{◌≤◌, arith, sym, ap, ◌∙◌, subst, Option, Some, None, ℕ, ◌+◌, true, false, ◌≡◌}
+use Rattle.std.proofs.Common.{sym, subst, Option, ℕ, ◌+◌}
 use Rattle.std.proofs.lemmas.Bool.{not-true, not-false, eqb-true, eqb-false}
-use Rattle.gi_prop.specs.Assigned.{HasValue}
 use Rattle.gi_prop.proofs.Scanned.{LeftSoFar, settled_true, settled_two, step_false, step_new, step_same, end_none, end_some}
 use Rattle.gi_prop.proofs.scan.scan_clause.Goals as goal
 use Rattle.gi_prop.proofs.scan.scan_clause.Goals.{in-Some-false, in-None+in-None-left, in-None+in-Some+else-ne}

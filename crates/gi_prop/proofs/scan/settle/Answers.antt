@@ -1,4 +1,4 @@
-use Rattle.std.proofs.Common.{◌≡◌, ◌≤◌, ◌/◌, ℕ, List, refl, sym, subst}
+use Rattle.std.proofs.Common.{◌≤◌, ◌/◌, ℕ, refl, sym, subst}
 use Rattle.gi_lit.specs.Closure.{IsSettled}
 use Rattle.gi_store.specs.Held.{IsWithin}
 use Rattle.gi_prop.specs.Scan.IsDone.{settled, forced}

@@ -1,6 +1,5 @@
-use Rattle.std.proofs.Common.{◌≡◌, ◌+◌, ◌<◌, ◌++◌, ℕ, Option, Some, None, length, replicate, set, sym, ap, ◌∙◌, arith}
+use Rattle.std.proofs.Common.{◌≡◌, ◌+◌, ◌<◌, ◌++◌, ℕ, Option, Some, None, length, replicate, sym, ap, ◌∙◌, arith}
 use Rattle.std.specs.Option.{SomeIff}
-use Rattle.gi_prop.specs.Attached.{Attached, Attaches}
 use Rattle.gi_prop.proofs.Slots.{attaches_as, numbered_as}
 use Rattle.gi_prop.proofs.Adding.{live_holds, goes_more}
 use Rattle.gi_prop.proofs.prop.Prop.attach.Goals as goal

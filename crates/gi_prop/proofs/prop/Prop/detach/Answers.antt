@@ -1,5 +1,5 @@
-use Rattle.std.proofs.Common.{◌≡◌, ◌<◌, length, set, None, sym, subst, arith}
-use Rattle.gi_prop.specs.Attached.{Attached, IsAttached, Detaches}
+use Rattle.std.proofs.Common.{◌<◌, length, sym, subst, arith}
+use Rattle.gi_prop.specs.Attached.{Attached, IsAttached}
 use Rattle.gi_prop.proofs.Slots.{attached_below, detaches_as}
 use Rattle.gi_prop.proofs.Adding.{goes_fewer}
 use Rattle.gi_prop.proofs.prop.Prop.detach.Goals as goal

@@ -1,5 +1,5 @@
 use Rattle.std.proofs.Common.{ℕ, Option, List, subst}
-use Rattle.gi_prop.specs.Attached.{Attached, IsAttached}
+use Rattle.gi_prop.specs.Attached.{IsAttached}
 use Rattle.gi_prop.proofs.Slots.{none_attached}
 use Rattle.gi_prop.proofs.Adding.{goes_none}
 use Rattle.gi_prop.proofs.prop.Prop.new.Goals as goal

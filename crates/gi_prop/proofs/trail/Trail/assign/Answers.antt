@@ -1,4 +1,4 @@
-use Rattle.std.proofs.Common.{◌≡◌, ◌+◌, ◌-◌, ◌<◌, ◌≤◌, ◌/◌, length, length-set, not, sym, ap, ◌∙◌, arith}
+use Rattle.std.proofs.Common.{◌-◌, ◌≤◌, ◌/◌, length, length-set, not, ap, ◌∙◌, arith}
 use Rattle.gi_prop.proofs.Indexing.{room_left}
 use Rattle.gi_prop.proofs.Values.{even_is_not_odd}
 use Rattle.gi_prop.proofs.Adding.{goes_view}

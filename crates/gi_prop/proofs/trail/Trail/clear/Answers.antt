@@ -1,4 +1,4 @@
-use Rattle.std.proofs.Common.{◌≡◌, ◌≤◌, length, arith}
+use Rattle.std.proofs.Common.{arith}
 use Rattle.gi_prop.proofs.Adding.{goes_view}
 use Rattle.gi_prop.proofs.trail.Trail.clear.Goals as goal
 

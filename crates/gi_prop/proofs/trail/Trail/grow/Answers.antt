@@ -1,4 +1,4 @@
-use Rattle.std.proofs.Common.{◌≡◌, ◌+◌, ◌-◌, ◌≤◌, ◌++◌, replicate, None, length, length-append, ap, ◌∙◌, arith}
+use Rattle.std.proofs.Common.{◌++◌, replicate, None, length, length-append, ap, ◌∙◌, arith}
 use Rattle.gi_prop.proofs.Adding.{goes_view}
 use Rattle.gi_prop.proofs.Laying.{laid_grow}
 use Rattle.gi_prop.proofs.trail.Trail.grow.Goals as goal

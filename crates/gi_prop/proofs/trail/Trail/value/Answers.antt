@@ -1,4 +1,4 @@
-use Rattle.std.proofs.Common.{◌≡◌, ◌+◌, ◌<◌, ◌≤◌, ◌/◌, ◌-◌, ◌%◌, ◌==◌, length, not, sym, subst, None, Some, ap, ◌∙◌, arith}
+use Rattle.std.proofs.Common.{◌<◌, ◌≤◌, ◌/◌, ◌-◌, length, not, subst, Some, arith}
 use mathlib.Core.Bool.{beq}
 use Rattle.gi_prop.specs.Assigned.{Assigned, HasValue}
 use Rattle.gi_prop.proofs.Values.{read_value, reads_none, reads_some, sign_is, sign_differs}
