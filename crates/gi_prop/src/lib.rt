@@ -5,6 +5,8 @@ pub mod laws;
 mod places;
 mod prop;
 mod scan;
+#[cfg(test)]
+mod tests;
 mod trail;
 
 pub use prop::Prop;
