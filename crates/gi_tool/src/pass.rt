@@ -1,4 +1,4 @@
-ghost use Rattle.std.specs.Prelude.{◌≡◌, ◌+◌, ◌<◌, [], ◌∷◌, ◌++◌, length, vec_capacity, IsSome, IfSome, IfNone, Some};
+ghost use Rattle.std.specs.Prelude.{◌≡◌, ◌^◌, ◌+◌, ◌<◌, [], ◌∷◌, ◌++◌, length, vec_capacity, IsSome, IfSome, IfNone, Some};
 ghost use Rattle.gi_model.specs.Fits.{fits};
 
 use crate::entry::Entry;
@@ -8,7 +8,7 @@ use gi_net::{Answered, Caller};
 use std::alloc::Global;
 
 /// How many calls a new pass has: 2^56.
-pub const CALLS: u64 = 1 << 56;
+const CALLS: u64 = 1 << 56;
 
 /// A caller's leave to use a machine. It owns the machine, and keeps the history of all that it was asked.
 #[derive(Drop)]
@@ -24,7 +24,7 @@ impl Pass {
 
     /// A pass of a new machine, with no history.
     pub fn new(alloc: Global) -> Pass
-        ensures { pass_standing result ≡ record { number = 0; history = []; left = CALLS } }
+        ensures { pass_standing result ≡ record { number = 0; history = []; left = 2 ^ 56 } }
     {
         Pass {
             machine: Machine::new(alloc),
