@@ -28,7 +28,7 @@ fn words(rt: &HostRuntime, alloc: Global) -> io::Result<Vec<String>> {
 /// Runs the program, and gives its exit status.
 fn status(rt: &HostRuntime, alloc: Global) -> u8 {
     let Ok(words) = words(rt, alloc) else {
-        return 2;
+        return 3;
     };
     let Ok((room, pass)) = Room::open(alloc) else {
         return 3;
