@@ -9,3 +9,4 @@ pub mod Growing
 pub mod Dropping
 pub mod Releasing
 pub mod Agreeing
+pub mod Codes

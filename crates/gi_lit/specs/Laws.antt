@@ -1,9 +1,10 @@
 -- Laws over the definitions.
-use Rattle.std.specs.Prelude.{◌≡◌, ℕ, ◌+◌, ◌*◌, ◌/◌, ◌≤◌, ◌⊎◌, ◌↔◌, Bool, true, List, map, All, Contains}
+use Rattle.std.specs.Prelude.{◌≡◌, ℕ, ◌+◌, ◌*◌, ◌/◌, ◌^◌, ◌≤◌, ◌⊎◌, ◌↔◌, Bool, true, List, length, map, All, Contains}
 use Rattle.gi_lit.specs.Literals.{opposite, IsSubsetOf}
 use Rattle.gi_lit.specs.Truth.{clause_true, Satisfies, IsConsequence, Fail}
 use Rattle.gi_lit.specs.Closure.{IsDerivation, InClosure, Conflicts, IsConsistent, IsClosed}
 use Rattle.gi_lit.specs.Problem.{Problem, force, full, IsWellFormed, IsProblemVar, IsAssumable}
+use Rattle.gi_lit.specs.Learnt.{AreFresh}
 
 -- what a derivation contains is a consequence
 abbrev pub DerivationsAreSound : Type 0
@@ -54,3 +55,7 @@ ClosuresAgree = (p : Problem) (given : List ℕ) → IsWellFormed p → All (IsA
 -- and the one conflicts exactly where the other does
 abbrev pub ConflictsAgree : Type 0
 ConflictsAgree = (p : Problem) (given : List ℕ) → IsWellFormed p → All (IsAssumable p) given → Conflicts (full p) given ↔ Conflicts (force p given) given
+
+-- clauses of n variables, each fresh after those before it, are at most 3^n
+abbrev pub FreshClausesAreFew : Type 0
+FreshClausesAreFew = (p : Problem) (known news : List (List ℕ)) → IsWellFormed p → AreFresh p known news → length news ≤ 3 ^ p.vars

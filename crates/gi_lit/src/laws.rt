@@ -1,6 +1,6 @@
 //! Laws over the definitions, each the contract of a function that does nothing.
 
-ghost use Rattle.gi_lit.specs.Laws.{DerivationsAreSound, ConflictsAreSound, DerivedClausesAreTrue, ClosedListsAreWhole, ClosedListsAreFree, GuardsAreSound, GuardsStandNegative, ForcedClausesAreFull, OtherClausesAreHeld, ClosuresAgree, ConflictsAgree};
+ghost use Rattle.gi_lit.specs.Laws.{DerivationsAreSound, ConflictsAreSound, DerivedClausesAreTrue, ClosedListsAreWhole, ClosedListsAreFree, GuardsAreSound, GuardsStandNegative, ForcedClausesAreFull, OtherClausesAreHeld, ClosuresAgree, ConflictsAgree, FreshClausesAreFew};
 
 /// Unit closure is sound: what a derivation contains is a consequence of the clauses and of what is given,
 /// and where the closure conflicts they fail together.
@@ -42,4 +42,9 @@ pub fn guards_stand_negative()
 pub fn closures_agree()
     ensures literals { ClosuresAgree }
     ensures conflicts { ConflictsAgree }
+{}
+
+/// Clauses over n variables, each of them fresh after those before it, are at most 3^n.
+pub fn fresh_clauses_are_few()
+    ensures { FreshClausesAreFew }
 {}

@@ -22,7 +22,7 @@ use Rattle.gi_model.specs.declared.replies.Verdict.{Verdict}
 use Rattle.gi_model.proofs.Accepting.{IsAccepted, accepted_facts}
 use Rattle.gi_model.proofs.Keeping.{append-nil}
 use Rattle.gi_model.proofs.Histories.{live_is, work_or_not, legal_from_kept, opening_kept, after_status}
-use Rattle.gi_model.proofs.Codes.{few_news}
+use Rattle.gi_lit.proofs.Codes.{few_news}
 
 -- news of several slices are news of one
 pub AreFresh-append : (p : Problem) (known xs ys : List (List ℕ)) → AreFresh p known xs → AreFresh p (known ++ xs) ys → AreFresh p known (xs ++ ys)

@@ -7,5 +7,4 @@ pub mod Telling
 pub mod Reasoning
 pub mod Entering
 pub mod Stepping
-pub mod Codes
 pub mod Bounding

@@ -1,12 +1,12 @@
-mod Lists
-mod Forgetting
-mod Views
-mod Edits
-mod Removing
-mod Sizes
-mod Kept
-mod Reading
-mod Resting
-mod Editing
-mod Counting
-mod Counted
+pub mod Lists
+pub mod Forgetting
+pub mod Views
+pub mod Edits
+pub mod Removing
+pub mod Sizes
+pub mod Kept
+pub mod Reading
+pub mod Resting
+pub mod Editing
+pub mod Counting
+pub mod Counted

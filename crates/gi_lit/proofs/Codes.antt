@@ -1,17 +1,18 @@
 -- Over n variables there are at most 3^n clauses none of which holds an earlier one.
-use Rattle.std.proofs.Common.{◌≡◌, ◌≢◌, ℕ, zero, suc, ◌+◌, ◌*◌, ◌/◌, ◌%◌, ◌^◌, ◌<◌, ◌≤◌, Bool, true, false, cond, nat_eq, List, [], ◌∷◌, ◌++◌, length, map, get_or, refl, sym, ◌∙◌, subst, arith, inl, inr}
+use Rattle.std.proofs.Common.{◌≡◌, ◌≢◌, ℕ, zero, suc, ◌+◌, ◌*◌, ◌/◌, ◌%◌, ◌^◌, ◌<◌, ◌≤◌, Bool, true, false, cond, nat_eq, List, [], ◌∷◌, ◌++◌, map, get_or, refl, sym, ◌∙◌, subst, arith, inl, inr, ◌⊎◌}
 use Rattle.std.specs.List.{All, AllByRecursion, Contains, list_any, IsDistinct}
 use Rattle.std.proofs.Math.Nat.{pow-suc}
 use Rattle.std.proofs.lemmas.Bool.{cases_eq, eqb-true, eq-eqb, ne_eqb, false_from_ne_true}
 use Rattle.std.proofs.lemmas.List.{length-map}
-use Rattle.std.proofs.lemmas.List.Elements.{All-head, All-tail, All-contains, All-weaker, Contains-append_left, Contains-append_right, Contains-push, All-map, Contains-get_or}
+use Rattle.std.proofs.lemmas.List.Elements.{All-nil, All-cons, All-head, All-tail, All-contains, Contains-append_left, Contains-append_right, Contains-push, All-map, Contains-get_or}
 use Rattle.std.proofs.lemmas.List.Folds.{list_any_at}
 use Rattle.std.proofs.lemmas.Map.Views.{Contains-from_any}
 use Rattle.std.proofs.lemmas.Map.Steps.{length-le_from_distinct_below}
 use Rattle.gi_lit.specs.Literals.{opposite}
-use Rattle.gi_lit.specs.Problem.{Problem, full, IsLiveVar, IsWellFormed}
+use Rattle.gi_lit.specs.Problem.{Problem, full, IsProblemVar, IsWellFormed}
 use Rattle.gi_lit.specs.Learnt.{AreFresh}
-use Rattle.gi_model.proofs.Keeping.{fresh_live}
+use Rattle.gi_lit.proofs.Vars.{var_facts}
+use Rattle.gi_lit.specs.Laws.{FreshClausesAreFew}
 
 -- 1 where the positive literal stands in the clause, else 2 for the negative one, else 0
 digit : ℕ → List ℕ → ℕ
@@ -114,8 +115,13 @@ distinct p known (d ∷ ds) n h w = (later_apart p (known ++ d ∷ []) ds n d (C
 below : (n : ℕ) (news : List (List ℕ)) (q : ℕ) → list_any (nat_eq q) (map (code n) news) ≡ true → q < 3 ^ n
 below n news q h = All-contains (λ q. q < 3 ^ n) (map (code n) news) q (All-map (λ q. q < 3 ^ n) (code n) news (λ k d lt. code_small n (get_or news k d))) (from_has (map (code n) news) q h)
 
-pub few_news : (p : Problem) (known news : List (List ℕ)) → IsWellFormed p → AreFresh p known news → length news ≤ 3 ^ p.vars
-few_news p known news k h = rw length-map at (length-le_from_distinct_below (map (code p.vars) news) (3 ^ p.vars) (distinct p known news p.vars h within) (below p.vars news))
-  where
-    within : All (WithinVars p.vars) news
-    within i d lt = All-weaker (λ l. IsLiveVar p (l / 2)) (λ l. (1 ≤ l / 2) × (l / 2 ≤ p.vars)) (λ l a. (a.0, a.1)) (get_or news i d) (fresh_live p known news k h i d lt)
+used_within : (p : Problem) → IsWellFormed p → (v : ℕ) → IsProblemVar p v ⊎ Contains p.active v → (1 ≤ v) × (v ≤ p.vars)
+used_within p k v (inl a) = let f = var_facts p v a in (f.low, f.high)
+used_within p k v (inr b) = let m = Contains-append_right p.freed p.active v b in (All-contains (λ g. 1 ≤ g) (p.freed ++ p.active) v k.low m, All-contains (λ g. g ≤ p.vars) (p.freed ++ p.active) v k.high m)
+
+news_within : (p : Problem) (known news : List (List ℕ)) → IsWellFormed p → AreFresh p known news → All (WithinVars p.vars) news
+news_within p known [] k h = All-nil (WithinVars p.vars)
+news_within p known (c ∷ cs) k h = All-cons (WithinVars p.vars) c cs (λ i d lt. used_within p k (get_or c i d / 2) (h.0.within i d lt)) (news_within p (known ++ c ∷ []) cs k h.2)
+
+pub few_news : FreshClausesAreFew
+few_news p known news k h = rw length-map at (length-le_from_distinct_below (map (code p.vars) news) (3 ^ p.vars) (distinct p known news p.vars h (news_within p known news k h)) (below p.vars news))
