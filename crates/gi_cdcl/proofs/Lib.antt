@@ -1,0 +1,11 @@
+mod Lists
+mod Counts
+mod Marking
+mod Resolving
+mod Uip
+mod Trails
+mod Fresh
+mod Built
+mod Values
+mod Teaching
+mod Stores

@@ -1,0 +1,42 @@
+-- What is true of the clauses that a store has.
+use Rattle.std.proofs.Common.{◌≡◌, ℕ, ◌+◌, ◌*◌, ◌/◌, ◌≤◌, List, ◌++◌, map, sym, subst, arith, inl, inr}
+use Rattle.std.specs.List.{All, Contains}
+use Rattle.std.proofs.lemmas.List.Elements.{All-append, All-map, All-push, All-contains, Contains-append_right}
+use Rattle.gi_lit.specs.Problem.{Pair, IsPlain, IsWellFormed, full, guarded}
+use Rattle.gi_lit.proofs.Vars.{var_facts}
+use Rattle.gi_store.specs.Held.{Held, Holds, IsWithin, problem_of, known_of}
+use Rattle.gi_store.specs.Whole.{IsWhole}
+use Rattle.gi_cdcl.specs.Sound.{stored, IsUsed}
+use Rattle.gi_cdcl.proofs.Uip.{holds_stored}
+use Rattle.gi_cdcl.proofs.Teaching.{stored_is}
+
+module _ (h : Held) (w : IsWellFormed (problem_of h)) where
+  plain_used : (c : List ℕ) → IsPlain (problem_of h) c → All (IsUsed h) c
+  plain_used c p = λ k d lt. inl (p k d lt)
+
+  pair_used : (q : Pair) → IsPlain (problem_of h) q.clause → Contains h.active q.guard → All (IsUsed h) (guarded q)
+  pair_used q p a = All-push (IsUsed h) q.clause (2 * q.guard + 1) (plain_used q.clause p) (inr (let e : (2 * q.guard + 1) / 2 ≡ q.guard = omega arith in rw e a))
+
+  -- the full clauses are of problem variables and active guards
+  pub full_used : All (All (IsUsed h)) (full (problem_of h))
+  unfolding full
+  full_used = All-append (All (IsUsed h)) (problem_of h).plain (map guarded (problem_of h).pairs)
+      (λ k d lt. plain_used _ (w.plain k d lt))
+      (All-map (All (IsUsed h)) guarded (problem_of h).pairs (λ k d lt. pair_used _ (w.pairs k d lt) (w.guards k d lt)))
+
+  pub used_within : (l : ℕ) → IsUsed h l → (1 ≤ l / 2) × (l / 2 ≤ h.vars)
+  used_within l (inl v) = let f = var_facts (problem_of h) (l / 2) v in (f.low, f.high)
+  used_within l (inr g) =
+      let there : Contains (h.freed ++ h.active) (l / 2) = Contains-append_right h.freed h.active (l / 2) g in
+      (All-contains (λ g. 1 ≤ g) (h.freed ++ h.active) (l / 2) w.low there, All-contains (λ g. g ≤ h.vars) (h.freed ++ h.active) (l / 2) w.high there)
+
+-- and the learnt ones too, where these are
+pub all_used : (h : Held) → IsWellFormed (problem_of h) → All (All (IsUsed h)) (known_of h) → All (All (IsUsed h)) (stored h)
+all_used h w k = subst (All (All (IsUsed h))) (sym (stored_is h)) (All-append (All (IsUsed h)) (full (problem_of h)) (known_of h) (full_used h w) k)
+
+-- each stored clause is of variables of the store
+pub all_within : (h : Held) → IsWhole h → All (IsWithin h.vars) (stored h)
+all_within h w = subst (All (IsWithin h.vars)) (sym (stored_is h)) (All-append (IsWithin h.vars) (full (problem_of h)) (known_of h) (λ k d lt i e il. used_within h w.well_formed _ (full_used h w.well_formed k d lt i e il)) w.known)
+
+pub holds_within : (h : Held) → IsWhole h → (key : ℕ) (c : List ℕ) → Holds h key c → (n : ℕ) → h.vars ≤ n → IsWithin n c
+holds_within h w key c held n le = λ k d lt. let r = All-contains (IsWithin h.vars) (stored h) c (all_within h w) (holds_stored h key c held) k d lt in (r.0, omega (arith, r.1, le))

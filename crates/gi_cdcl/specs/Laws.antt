@@ -1,0 +1,19 @@
+-- Laws over the definitions.
+use Rattle.std.specs.Prelude.{ℕ, ◌^◌, ◌≤◌, List, length, take, All}
+use Rattle.gi_lit.specs.Closure.{IsFalsified, IsClosed}
+use Rattle.gi_lit.specs.Problem.{Problem, IsWellFormed}
+use Rattle.gi_lit.specs.Learnt.{IsImplied, IsFresh, IsDerived, AreFresh}
+use Rattle.gi_store.specs.Held.{Held, Holds, problem_of, known_of}
+use Rattle.gi_prop.specs.Assigned.{Assigned, IsTrail}
+use Rattle.gi_cdcl.specs.Sound.{stored, IsUsed}
+use Rattle.gi_cdcl.specs.Uip.{IsUip}
+
+-- clauses none of which holds an earlier one are few
+abbrev pub NewsAreFew : Type 0
+NewsAreFew = (p : Problem) (known news : List (List ℕ)) → IsWellFormed p → AreFresh p known news → length news ≤ 3 ^ p.vars
+
+-- what a conflict teaches is fresh and derived
+abbrev pub LearntClausesAreFresh : Type 0
+LearntClausesAreFresh = (h : Held) (t : Assigned) (key : ℕ) (conflict : List ℕ) (start : ℕ) (clause : List ℕ) → All (IsImplied (problem_of h)) (known_of h) → All (All (IsUsed h)) (stored h) → IsTrail t
+    → IsClosed (stored h) (take start t.lits) → Holds h key conflict → IsFalsified t.lits conflict → IsUip h t conflict start clause
+    → IsFresh (problem_of h) (known_of h) clause × IsDerived (problem_of h) (known_of h) clause

@@ -1,0 +1,7 @@
+pub mod Sound
+pub mod Uip
+pub mod Marks
+pub mod Values
+pub mod Ends
+pub mod Searching
+pub mod Laws

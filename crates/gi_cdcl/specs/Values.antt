@@ -1,0 +1,20 @@
+-- The values that a trail gives.
+use Rattle.std.specs.Prelude.{◌≡◌, ℕ, ◌+◌, ◌*◌, ◌/◌, ◌≤◌, Bool, true, false, List, length, Contains, ◌⊎◌}
+use Rattle.gi_lit.specs.Literals.{opposite}
+use Rattle.gi_lit.specs.Truth.{true_in}
+use Rattle.gi_store.specs.Held.{Held}
+use Rattle.gi_cdcl.specs.Sound.{IsUsed}
+
+-- each problem variable and each active guard has a value
+abbrev pub AllAssigned : Held → List ℕ → Type 0
+AllAssigned h lits = (l : ℕ) → IsUsed h l → Contains lits l ⊎ Contains lits (opposite l)
+
+-- whether the variable at place v is true
+abbrev pub IsValueOf : List ℕ → ℕ → Bool → Type 0
+IsValueOf lits v true = Contains lits (2 * (v + 1))
+IsValueOf lits v false = ¬ Contains lits (2 * (v + 1))
+
+-- the values make each literal of the list true
+pub record IsAssignment (vars : ℕ) (lits : List ℕ) (values : List Bool) : Type 0 where
+  pub len : length values ≡ vars
+  pub each : (l : ℕ) → 1 ≤ l / 2 → l / 2 ≤ vars → Contains lits l → true_in values l ≡ true

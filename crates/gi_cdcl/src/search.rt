@@ -1,0 +1,102 @@
+ghost use Rattle.std.specs.Prelude.{◌≡◌, ◌≢◌, ◌<◌, ◌≤◌, ℕ, List, length, OnOk, OnErr};
+ghost use Rattle.gi_store.specs.Held.{Held, IsLive, IsWithin, Keeps};
+ghost use Rattle.gi_prop.specs.Attached.{IsAttached, Attaches, Detaches, HasSameKeys};
+ghost use Rattle.gi_cdcl.specs.Searching.{GoesWith, HasAll, AreKnown};
+ghost use Rattle.gi_cdcl.specs.Ends.{Slices};
+ghost use Rattle.gi_cdcl.specs.declared.slice.Slice.TheVariants.{NoMemory};
+
+use crate::brake::Brake;
+use crate::slice::{Slice, Sliced};
+use gi_lit::{Clauses, Lit};
+use gi_prop::{Prop, Trail};
+use gi_store::{Key, Store};
+use std::alloc::{AllocError, Global};
+use std::marker::Model;
+
+/// A search over the clauses of a store. Contracts see which keys are attached, and with which stores it goes. Between calls its trail is empty.
+#[derive(Drop)]
+pub struct Search {
+    alloc: Global,
+    trail: Trail,
+    prop: Prop,
+}
+
+impl Model for Search {
+    ghost use Rattle.std.specs.Prelude.{◌≡◌};
+    ghost use Rattle.gi_prop.specs.Assigned.{no_lits};
+    ghost use Rattle.gi_cdcl.specs.Searching.{Searching};
+
+    ghost Value = { Searching };
+
+    ghost view = { λ s. record { attached = s.prop; vars = s.trail.vars } };
+
+    ghost invariant = { λ s. s.trail ≡ no_lits s.trail.vars };
+}
+
+impl Search {
+    /// A search with no key, which goes with every store.
+    pub fn new(alloc: Global) -> Search
+        ensures none { (k : ℕ) → ¬ IsAttached result.attached k }
+        ensures goes { (h : Held) → GoesWith result h }
+    {
+        Search {
+            alloc,
+            trail: Trail::new(alloc),
+            prop: Prop::new(alloc),
+        }
+    }
+
+    /// Attaches a key of the store. After an error the same keys are attached as before, and the search goes with the same stores.
+    pub fn attach(&mut self, store: &Store, key: Key) -> Result<(), AllocError>
+        requires goes { GoesWith self.old store.now }
+        requires live { IsLive store.now key }
+        requires free { ¬ IsAttached self.old.attached key }
+        ensures ok { OnOk result (Attaches key self.old.attached self.new.attached) }
+        ensures goes { GoesWith self.new store.now }
+        ensures err { OnErr result (HasSameKeys self.old.attached self.new.attached) }
+        ensures err_goes { OnErr result ((h : Held) → GoesWith self.old h → GoesWith self.new h) }
+    {
+        self.trail.grow(store.vars())?;
+        self.prop.attach(store, &self.trail, key)
+    }
+
+    /// Detaches a key. Takes no memory.
+    pub fn detach(&mut self, key: Key)
+        requires { IsAttached self.old.attached key }
+        ensures detached { Detaches key self.old.attached self.new.attached }
+        ensures goes { (h : Held) → GoesWith self.old h → GoesWith self.new h }
+    {
+        self.prop.detach(key);
+    }
+
+    /// Searches until so many clauses were learnt, the brake tells a mark that reaches the serial, or there is a verdict on the clauses in force
+    /// and the assumptions. The clauses that it learns stand in the store, and are attached, unless memory was wanting: then the store's problem is
+    /// as before, what was learnt stands in it, and the search isn't used again.
+    pub fn slice<B: Brake>(
+        &mut self,
+        store: &mut Store,
+        assumed: &[Lit],
+        limit: u32,
+        serial: u64,
+        brake: &mut B,
+    ) -> Sliced
+        requires limit { (1 ≤ limit) × (limit ≤ 1024) }
+        requires assumed { IsWithin store.old.vars assumed.now }
+        requires goes { GoesWith self.old store.old }
+        requires all { HasAll self.old store.old }
+        requires known { AreKnown store.old }
+        requires new_brake { (B.top brake.old ≡ 0) × (B.asks brake.old ≡ 0) }
+        ensures slices { Slices store.old store.new assumed.now limit serial result.mark result.news result.end }
+        ensures keeps { Keeps store.old store.new }
+        ensures mark { result.mark ≡ B.top brake.new }
+        ensures follows { B.follows brake.old brake.new }
+        ensures asks { result.end ≢ NoMemory → length result.news < B.asks brake.new }
+        ensures goes { result.end ≢ NoMemory → GoesWith self.new store.new × HasAll self.new store.new }
+    {
+        Sliced {
+            news: Clauses::new(self.alloc),
+            mark: 0,
+            end: Slice::NoMemory,
+        }
+    }
+}
