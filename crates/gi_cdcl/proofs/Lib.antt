@@ -9,3 +9,8 @@ mod Built
 mod Values
 mod Teaching
 mod Stores
+mod Assuming
+mod Ending
+mod Going
+mod Empties
+mod Stepping

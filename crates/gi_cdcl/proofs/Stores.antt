@@ -38,5 +38,8 @@ all_used h w k = subst (All (All (IsUsed h))) (sym (stored_is h)) (All-append (A
 pub all_within : (h : Held) → IsWhole h → All (IsWithin h.vars) (stored h)
 all_within h w = subst (All (IsWithin h.vars)) (sym (stored_is h)) (All-append (IsWithin h.vars) (full (problem_of h)) (known_of h) (λ k d lt i e il. used_within h w.well_formed _ (full_used h w.well_formed k d lt i e il)) w.known)
 
+pub all_within_more : (h : Held) → IsWhole h → (n : ℕ) → h.vars ≤ n → All (IsWithin n) (stored h)
+all_within_more h w n le = λ k d lt i e il. let r = all_within h w k d lt i e il in (r.0, omega (arith, r.1, le))
+
 pub holds_within : (h : Held) → IsWhole h → (key : ℕ) (c : List ℕ) → Holds h key c → (n : ℕ) → h.vars ≤ n → IsWithin n c
 holds_within h w key c held n le = λ k d lt. let r = All-contains (IsWithin h.vars) (stored h) c (all_within h w) (holds_stored h key c held) k d lt in (r.0, omega (arith, r.1, le))

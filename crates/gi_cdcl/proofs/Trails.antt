@@ -15,7 +15,7 @@ use Rattle.gi_cdcl.specs.Uip.{IsJump}
 use Rattle.gi_cdcl.proofs.Lists.{place_in_take, front_contains}
 use Rattle.gi_cdcl.proofs.Uip.{IsOneHigh}
 
-entries_learnt : (key : ℕ) (c : List ℕ) (h : Held) → entries (with_learnt key c h) ≡ entries h ++ record { key = key; lits = c } ∷ []
+pub entries_learnt : (key : ℕ) (c : List ℕ) (h : Held) → entries (with_learnt key c h) ≡ entries h ++ record { key = key; lits = c } ∷ []
 entries_learnt key c h =
     let e : List Entry = record { key = key; lits = c } ∷ [] in
     sym (append_assoc h.plain (map full_entry h.pairs ++ h.learnt) e ∙ ap (λ xs. h.plain ++ xs) (append_assoc (map full_entry h.pairs) h.learnt e))
@@ -26,6 +26,11 @@ stored_learnt key c h = ap (λ xs. map (λ (e : Entry). e.lits) xs) (entries_lea
 
 pub holds_more : (key : ℕ) (c : List ℕ) (h : Held) (k : ℕ) (d : List ℕ) → Holds h k d → Holds (with_learnt key c h) k d
 holds_more key c h k d held = subst (λ xs. Contains xs (record { key = k; lits = d })) (sym (entries_learnt key c h)) (Contains-append_left (entries h) _ _ held)
+
+pub holds_more_all : (h : Held) (es : List Entry) (k : ℕ) (d : List ℕ) → Holds h k d → Holds (record h { learnt = h.learnt ++ es }) k d
+holds_more_all h es k d held =
+    subst (λ xs. Contains xs (record { key = k; lits = d })) (append_assoc h.plain (map full_entry h.pairs ++ h.learnt) es ∙ ap (λ xs. h.plain ++ xs) (append_assoc (map full_entry h.pairs) h.learnt es))
+    (Contains-append_left (entries h) es _ held)
 
 pub holds_learnt : (key : ℕ) (c : List ℕ) (h : Held) → Holds (with_learnt key c h) key c
 holds_learnt key c h = subst (λ xs. Contains xs (record { key = key; lits = c })) (sym (entries_learnt key c h)) (Contains-push (entries h) _)
@@ -45,15 +50,15 @@ supported_more : (h : Held) (a b : Assigned) (more : List ℕ) → b.lits ≡ a.
 supported_more h a b more e marks k lt None s = marks k s
 supported_more h a b more e marks k lt (Some r) s = (s.0, s.1, rw (e, get_or_append_left a.lits more 0 k lt, take-append-le k a.lits more (omega arith)) s.2)
 
-module _ (h : Held) (t : Assigned) (tr : IsTrail t) (s : IsSound h t) where
-  -- with a clause learnt
-  pub IsSound-learnt : (key : ℕ) (c : List ℕ) → IsSound (with_learnt key c h) t
-  IsSound-learnt key c = record { each = λ k lt. go k (get_or t.reasons k None) (s.each k lt) }
-    where
-      go : (k : ℕ) (o : Option ℕ) → IsSupported h t k o → IsSupported (with_learnt key c h) t k o
-      go k None u = u
-      go k (Some r) u = (u.0, holds_more key c h r u.0 u.1, u.2)
+-- with a clause learnt
+pub IsSound-learnt : (h : Held) (t : Assigned) → IsSound h t → (key : ℕ) (c : List ℕ) → IsSound (with_learnt key c h) t
+IsSound-learnt h t s key c = record { each = λ k lt. go k (get_or t.reasons k None) (s.each k lt) }
+  where
+    go : (k : ℕ) (o : Option ℕ) → IsSupported h t k o → IsSupported (with_learnt key c h) t k o
+    go k None u = u
+    go k (Some r) u = (u.0, holds_more key c h r u.0 u.1, u.2)
 
+module _ (h : Held) (t : Assigned) (tr : IsTrail t) (s : IsSound h t) where
   -- with forced literals behind
   pub IsSound-grows : (b : Assigned) → Grows h t b → IsSound h b
   IsSound-grows b g = record {

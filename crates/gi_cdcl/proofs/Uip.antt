@@ -9,7 +9,7 @@ use Rattle.gi_lit.specs.Closure.{IsFalsified, IsDerivation, Conflicts}
 use Rattle.gi_lit.specs.Problem.{without}
 use Rattle.gi_lit.proofs.Literals.{opposite-opposite}
 use Rattle.gi_lit.proofs.Closure.{IsDerivation-push, given_derives}
-use Rattle.gi_store.specs.Held.{Entry, Held, Holds, entries}
+use Rattle.gi_store.specs.Held.{Entry, Held, Holds, IsLive, entries}
 use Rattle.gi_prop.specs.Assigned.{Assigned}
 use Rattle.gi_cdcl.specs.Sound.{stored}
 use Rattle.gi_cdcl.specs.Uip.{IsResolved, IsUip}
@@ -19,6 +19,10 @@ use Rattle.gi_cdcl.proofs.Lists.{place_in_take, front_contains, Contains-map, wi
 -- what is held is stored
 pub holds_stored : (h : Held) (key : ℕ) (c : List ℕ) → Holds h key c → Contains (stored h) c
 holds_stored h key c k = Contains-map (λ (e : Entry). e.lits) (entries h) (record { key = key; lits = c }) k
+
+-- and its key is in use
+pub holds_live : (h : Held) (key : ℕ) (c : List ℕ) → Holds h key c → IsLive h key
+holds_live h key c k = Contains-map (λ (e : Entry). e.key) (entries h) (record { key = key; lits = c }) k
 
 -- one literal is false from the place `top` of the last level, and the others were false before that level
 pub record IsOneHigh (lits : List ℕ) (start : ℕ) (clause : List ℕ) : Type 0 where

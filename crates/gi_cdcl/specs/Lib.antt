@@ -5,3 +5,7 @@ pub mod Values
 pub mod Ends
 pub mod Searching
 pub mod Laws
+pub mod Assumed
+pub mod Going
+pub mod Steps
+pub mod Finish

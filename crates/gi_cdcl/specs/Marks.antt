@@ -1,7 +1,8 @@
 -- Marks on the places of a trail, for the literals of the clause that is learnt.
 use Rattle.std.specs.Prelude.{zero, suc, ◌≡◌, ℕ, ◌+◌, ◌/◌, ◌<◌, ◌≤◌, Bool, true, false, if◌then◌else◌, Option, Some, None, List, [], ◌∷◌, length, slice_index, slice_index_or, All, Contains, ◌⊎◌, ◌↔◌}
 use Rattle.gi_lit.specs.Literals.{opposite}
-use Rattle.gi_store.specs.Held.{Held}
+use Rattle.gi_lit.specs.Closure.{IsFalsified}
+use Rattle.gi_store.specs.Held.{Held, Holds}
 use Rattle.gi_prop.specs.Assigned.{Assigned, StandsAt}
 use Rattle.gi_cdcl.specs.Uip.{IsResolved}
 
@@ -54,3 +55,9 @@ pub record IsBuilt (lits : List ℕ) (seen : List Bool) (top n : ℕ) (clause : 
   pub all : (k : ℕ) → k < n → slice_index_or seen k false ≡ true → Contains clause (opposite (slice_index lits k))
   pub only : (m : ℕ) → Contains clause m → (m ≡ opposite (slice_index lits top)) ⊎ IsMarked lits seen n m
   pub last_is : IsLast seen n last
+
+-- the clause of the key is false
+pub record HasFalse (h : Held) (lits : List ℕ) (key : ℕ) : Type 0 where
+  pub clause : List ℕ
+  pub held : Holds h key clause
+  pub falsified : IsFalsified lits clause

@@ -9,6 +9,10 @@ use Rattle.gi_cdcl.specs.Sound.{IsUsed}
 abbrev pub AllAssigned : Held → List ℕ → Type 0
 AllAssigned h lits = (l : ℕ) → IsUsed h l → Contains lits l ⊎ Contains lits (opposite l)
 
+-- each of these among the first n variables has a value
+pub record IsPassed (h : Held) (lits : List ℕ) (n : ℕ) : Type 0 where
+  pub each : (l : ℕ) → IsUsed h l → l / 2 ≤ n → Contains lits l ⊎ Contains lits (opposite l)
+
 -- whether the variable at place v is true
 abbrev pub IsValueOf : List ℕ → ℕ → Bool → Type 0
 IsValueOf lits v true = Contains lits (2 * (v + 1))

@@ -1,10 +1,18 @@
 //! Search by conflict-driven learning under assumptions.
 #![tactic(auto)]
 
+mod assume;
 mod brake;
+mod decide;
+mod empty;
+mod engine;
 pub mod laws;
+mod learn;
+mod run;
 mod search;
 mod slice;
+mod step;
+mod teach;
 
 pub use brake::Brake;
 pub use search::Search;

@@ -6,7 +6,9 @@ ghost use Rattle.gi_cdcl.specs.Ends.{Slices};
 ghost use Rattle.gi_cdcl.specs.declared.slice.Slice.TheVariants.{NoMemory};
 
 use crate::brake::Brake;
-use crate::slice::{Slice, Sliced};
+use crate::engine::{Bounds, Engine, Progress};
+use crate::run::start;
+use crate::slice::Sliced;
 use gi_lit::{Clauses, Lit};
 use gi_prop::{Prop, Trail};
 use gi_store::{Key, Store};
@@ -16,9 +18,7 @@ use std::marker::Model;
 /// A search over the clauses of a store. Contracts see which keys are attached, and with which stores it goes. Between calls its trail is empty.
 #[derive(Drop)]
 pub struct Search {
-    alloc: Global,
-    trail: Trail,
-    prop: Prop,
+    engine: Engine,
 }
 
 impl Model for Search {
@@ -28,9 +28,9 @@ impl Model for Search {
 
     ghost Value = { Searching };
 
-    ghost view = { λ s. record { attached = s.prop; vars = s.trail.vars } };
+    ghost view = { λ s. record { attached = s.engine.prop; vars = s.engine.trail.vars } };
 
-    ghost invariant = { λ s. s.trail ≡ no_lits s.trail.vars };
+    ghost invariant = { λ s. s.engine.trail ≡ no_lits s.engine.trail.vars };
 }
 
 impl Search {
@@ -39,11 +39,15 @@ impl Search {
         ensures none { (k : ℕ) → ¬ IsAttached result.attached k }
         ensures goes { (h : Held) → GoesWith result h }
     {
-        Search {
+        let engine = Engine {
             alloc,
             trail: Trail::new(alloc),
             prop: Prop::new(alloc),
-        }
+            phases: Vec::new(alloc),
+            vars_passed: 0,
+            assumed_passed: 0,
+        };
+        Search { engine }
     }
 
     /// Attaches a key of the store. After an error the same keys are attached as before, and the search goes with the same stores.
@@ -56,8 +60,8 @@ impl Search {
         ensures err { OnErr result (HasSameKeys self.old.attached self.new.attached) }
         ensures err_goes { OnErr result ((h : Held) → GoesWith self.old h → GoesWith self.new h) }
     {
-        self.trail.grow(store.vars())?;
-        self.prop.attach(store, &self.trail, key)
+        self.engine.trail.grow(store.vars())?;
+        self.engine.prop.attach(store, &self.engine.trail, key)
     }
 
     /// Detaches a key. Takes no memory.
@@ -66,7 +70,7 @@ impl Search {
         ensures detached { Detaches key self.old.attached self.new.attached }
         ensures goes { (h : Held) → GoesWith self.old h → GoesWith self.new h }
     {
-        self.prop.detach(key);
+        self.engine.prop.detach(key);
     }
 
     /// Searches until so many clauses were learnt, the brake tells a mark that reaches the serial, or there is a verdict on the clauses in force
@@ -93,10 +97,24 @@ impl Search {
         ensures asks { result.end ≢ NoMemory → length result.news < B.asks brake.new }
         ensures goes { result.end ≢ NoMemory → GoesWith self.new store.new × HasAll self.new store.new }
     {
-        Sliced {
-            news: Clauses::new(self.alloc),
+        let bounds = Bounds { limit, serial };
+        let mut progress = Progress {
+            news: Vec::new(self.engine.alloc),
             mark: 0,
-            end: Slice::NoMemory,
+        };
+        let end = start(
+            &mut self.engine,
+            store,
+            assumed,
+            bounds,
+            brake,
+            &mut progress,
+        );
+        self.engine.trail.clear();
+        Sliced {
+            news: Clauses::from_vec(progress.news),
+            mark: progress.mark,
+            end,
         }
     }
 }

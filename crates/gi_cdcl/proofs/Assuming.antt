@@ -1,0 +1,187 @@
+-- What a false assumption goes back to, and that levels are led by assumptions.
+use Rattle.std.proofs.Common.{◌≡◌, ◌≢◌, ℕ, ◌+◌, ◌/◌, ◌<◌, ◌≤◌, Bool, true, false, None, List, [], ◌∷◌, ◌++◌, length, take, get_or, set, replicate, refl, sym, ap, ◌∙◌, subst, arith, ◌⊎◌, inl, inr, length-append}
+use Rattle.std.specs.List.{All, Contains}
+use Rattle.std.proofs.lemmas.Bool.{cases_lt, cases_eq, false≢true}
+use Rattle.std.proofs.lemmas.List.{get_or-take, get_or_default, length-replicate, get_or_append_left, get_or_push, take_all, take_more, get_or_read, take-append-le, length-set, get_or-set_same, take-take, length-take, length-take-le}
+use Rattle.std.proofs.lemmas.List.Elements.{Contains-append_left, Contains-push, Contains-push_cases, All-contains, Contains-get_or}
+use Rattle.gi_lit.specs.Literals.{opposite}
+use Rattle.gi_lit.specs.Lists.{IsSublist}
+use Rattle.gi_lit.specs.Closure.{Forces, IsConsistent}
+use Rattle.gi_lit.proofs.Literals.{var-opposite}
+use Rattle.gi_lit.proofs.Closure.{IsDerivation-push}
+use Rattle.gi_store.specs.Held.{Held, Holds}
+use Rattle.gi_prop.specs.Assigned.{Assigned, StandsAt, IsTrail, with_lit, with_level, cut_at}
+use Rattle.gi_cdcl.specs.Sound.{stored}
+use Rattle.gi_cdcl.specs.Marks.{Marks}
+use Rattle.gi_cdcl.specs.Assumed.{IsLed, LeadsFrom}
+use Rattle.gi_cdcl.proofs.Lists.{Contains-take}
+use Rattle.gi_cdcl.proofs.Marking.{IsSeen}
+use Rattle.gi_cdcl.proofs.Resolving.{false_at, stands_at}
+use Rattle.gi_cdcl.proofs.Uip.{holds_stored}
+use Rattle.gi_cdcl.proofs.Trails.{Grows}
+
+pub record Tracing (h : Held) (t : Assigned) (failed : ℕ) (seen : List Bool) (at : ℕ) : Type 0 where
+  pub len : length seen ≡ length t.lits
+  pub at_le : at ≤ length t.lits
+  pub leads : LeadsFrom h t failed seen at
+
+pub sublist_skip : (xs ys : List ℕ) (y : ℕ) → IsSublist xs ys → IsSublist xs (ys ++ y ∷ [])
+sublist_skip [] ys y h = tt
+sublist_skip (x ∷ xs) [] y h = elim h [ ]
+sublist_skip (x ∷ xs) (z ∷ zs) y (inl h) = inl (h.0, sublist_skip xs zs y h.1)
+sublist_skip (x ∷ xs) (z ∷ zs) y (inr h) = inr (sublist_skip (x ∷ xs) zs y h)
+
+pub sublist_push : (xs ys : List ℕ) (x : ℕ) → IsSublist xs ys → IsSublist (xs ++ x ∷ []) (ys ++ x ∷ [])
+sublist_push [] [] x h = inl (refl, tt)
+sublist_push [] (z ∷ zs) x h = inr (sublist_push [] zs x tt)
+sublist_push (w ∷ ws) [] x h = elim h [ ]
+sublist_push (w ∷ ws) (z ∷ zs) x (inl h) = inl (h.0, sublist_push ws zs x h.1)
+sublist_push (w ∷ ws) (z ∷ zs) x (inr h) = inr (sublist_push (w ∷ ws) zs x h)
+
+module _ (h : Held) (t : Assigned) (tr : IsTrail t) (failed : ℕ) where
+  pub Tracing-init : Contains t.lits (opposite failed) → (p : ℕ) → StandsAt t.lits (failed / 2) p → Tracing h t failed (set (replicate (length t.lits) false) p true) (length t.lits)
+  Tracing-init f p st =
+      let q : get_or t.lits f.0 0 ≡ opposite failed = get_or_default t.lits f.0 0 (opposite failed) f.1 ∙ f.2 in
+      let e : p ≡ f.0 = tr.apart p f.0 st.below f.1 (st.names ∙ sym (ap (λ n. n / 2) q ∙ var-opposite failed)) in
+      let len : length (replicate (length t.lits) false) ≡ length t.lits = length-replicate (length t.lits) false in
+      record {
+        len = length-set (replicate (length t.lits) false) p true ∙ len;
+        at_le = omega arith;
+        leads = λ given d dd known m. record {
+          lits = d;
+          derived = dd;
+          clash = inl (failed, known, subst (Contains d) (ap (λ n. get_or t.lits n 0) e ∙ q) (m p st.below (get_or-set_same (replicate (length t.lits) false) p true false (rw len st.below)) (inl st.below)));
+        };
+      }
+
+  module _ (a : ℕ) (seen : List Bool) (r : Tracing h t failed seen (a + 1)) where
+    below : (k : ℕ) → k ≢ a → (k < a + 1) ⊎ Contains t.marks k → (k < a) ⊎ Contains t.marks k
+    below k ne (inl lt) = inl (omega arith)
+    below k ne (inr d) = inr d
+
+    pub Tracing-skip : get_or seen a false ≡ false → Tracing h t failed seen a
+    Tracing-skip e = record {
+      len = r.len;
+      at_le = let x = r.at_le in omega arith;
+      leads = λ given d dd known m. r.leads given d dd known (λ k kl q side. elim (cases_eq k a) [ inl same ↦ absurd (false≢true (sym e ∙ ap (λ i. get_or seen i false) (sym same) ∙ q)) | inr other ↦ m k kl q (below k other side) ]);
+    }
+
+    pub Tracing-decision : Contains t.marks a → Tracing h t failed seen a
+    Tracing-decision mk = record {
+      len = r.len;
+      at_le = let x = r.at_le in omega arith;
+      leads = λ given d dd known m. r.leads given d dd known (λ k kl q side. m k kl q (elim (cases_eq k a) [ inl same ↦ inr (rw same mk) | inr other ↦ below k other side ]));
+    }
+
+    pub Tracing-step : (clause : List ℕ) (key : ℕ) → Holds h key clause → Forces clause (get_or t.lits a 0) (take a t.lits) → (start : ℕ) (new : List Bool) (more : ℕ) → Marks t.lits clause start a seen new more → Tracing h t failed new a
+    Tracing-step clause key c f start new more m = record {
+      len = m.len ∙ r.len;
+      at_le = let x = r.at_le in omega arith;
+      leads = λ given d dd known p.
+          r.leads given (d ++ get_or t.lits a 0 ∷ [])
+          (IsDerivation-push (stored h) given d (get_or t.lits a 0) dd (inr (clause, holds_stored h key clause c, record { stands = f.stands; others = λ j e jl. earlier d p (get_or clause j e) (Contains-get_or clause j e jl) })))
+          (Contains-append_left d (get_or t.lits a 0 ∷ []) failed known)
+          (λ k kl q side. elim (cases_eq k a) [ inl same ↦ rw same (Contains-push d (get_or t.lits a 0)) | inr other ↦ Contains-append_left d (get_or t.lits a 0 ∷ []) (get_or t.lits k 0) (p k kl (m.keeps k q) (below k other side)) ]);
+    }
+      where
+        earlier : (d : List ℕ) → ((k : ℕ) → k < length t.lits → get_or new k false ≡ true → (k < a) ⊎ Contains t.marks k → Contains d (get_or t.lits k 0)) → (m' : ℕ) → Contains clause m' → (m' ≡ get_or t.lits a 0) ⊎ Contains d (opposite m')
+        earlier d p m' inside = elim (All-contains (λ m. (m ≡ get_or t.lits a 0) ⊎ Contains (take a t.lits) (opposite m)) clause m' f.others inside) [
+          | inl same ↦ inl same
+          | inr before ↦
+              let q = false_at t.lits a m' before in
+              let flag = All-contains (IsSeen t.lits a new) clause m' m.all inside q.place q.before (stands_at t.lits a m' q) in
+              inr (subst (Contains d) q.is (p q.place q.below flag (inl q.before)))
+        ]
+
+-- where an assumption is false, each decision is an assumption
+pub decisions_assumed : (t : Assigned) (assumed : List ℕ) (failed : ℕ) → IsConsistent t.lits → IsLed assumed t → Contains assumed failed → Contains t.lits (opposite failed) → (k : ℕ) → Contains t.marks k → Contains assumed (get_or t.lits k 0)
+decisions_assumed t assumed failed c led a f k h =
+    let e : get_or t.marks h.0 0 ≡ k = get_or_default t.marks h.0 0 k h.1 ∙ h.2 in
+    elim (led.each h.0 h.1) [
+      | inl known ↦ rw e at known
+      | inr all ↦ absurd (c.each failed (Contains-take (get_or t.marks h.0 0) t.lits failed (All-contains (Contains (take (get_or t.marks h.0 0) t.lits)) assumed failed all a)) f)
+    ]
+
+-- what was found among the first i assumptions
+pub record Found (assumed lits : List ℕ) (seen : List Bool) (failed i : ℕ) (found : List ℕ) : Type 0 where
+  pub sublist : IsSublist found (take i assumed)
+  pub failed_in : Contains (take i assumed) failed → Contains found failed
+  pub marked : (k : ℕ) → k < length lits → get_or seen k false ≡ true → Contains (take i assumed) (get_or lits k 0) → Contains found (get_or lits k 0)
+
+module _ (assumed lits : List ℕ) (seen : List Bool) (failed i : ℕ) (found : List ℕ) (h : Found assumed lits seen failed i found) (x : ℕ) (lt : i < length assumed) (item : x ≡ get_or assumed i x) where
+  taken : take (i + 1) assumed ≡ take i assumed ++ x ∷ []
+  taken = take_more assumed i 0 lt ∙ ap (λ (y : ℕ). take i assumed ++ y ∷ []) (sym (get_or_read assumed i x lt item 0))
+
+  cases : (y : ℕ) → Contains (take (i + 1) assumed) y → Contains (take i assumed) y ⊎ (x ≡ y)
+  cases y k = Contains-push_cases (take i assumed) x y (subst (λ (xs : List ℕ). Contains xs y) taken k)
+
+  pub Found-push : Found assumed lits seen failed (i + 1) (found ++ x ∷ [])
+  Found-push = record {
+    sublist = rw taken (sublist_push found (take i assumed) x h.sublist);
+    failed_in = λ k. elim (cases failed k) [ inl old ↦ Contains-append_left found (x ∷ []) failed (h.failed_in old) | inr e ↦ subst (Contains (found ++ x ∷ [])) e (Contains-push found x) ];
+    marked = λ k kl q c. elim (cases (get_or lits k 0) c) [ inl old ↦ Contains-append_left found (x ∷ []) (get_or lits k 0) (h.marked k kl q old) | inr e ↦ subst (Contains (found ++ x ∷ [])) e (Contains-push found x) ];
+  }
+
+  pub Found-skip : (x ≡ failed → ⊥) → ((k : ℕ) → k < length lits → get_or lits k 0 ≡ x → get_or seen k false ≡ true → ⊥) → Found assumed lits seen failed (i + 1) found
+  Found-skip nf nm = record {
+    sublist = rw taken (sublist_skip found (take i assumed) x h.sublist);
+    failed_in = λ k. elim (cases failed k) [ inl old ↦ h.failed_in old | inr e ↦ absurd (nf e) ];
+    marked = λ k kl q c. elim (cases (get_or lits k 0) c) [ inl old ↦ h.marked k kl q old | inr e ↦ absurd (nm k kl (sym e) q) ];
+  }
+
+module _ (assumed : List ℕ) (t : Assigned) (led : IsLed assumed t) where
+  pub IsLed-grows : (h : Held) (b : Assigned) → Grows h t b → IsLed assumed b
+  IsLed-grows h b e = record {
+    within = λ j lt. let w = led.within j (rw e.marks at lt) in rw (e.marks, e.lits) (omega (arith, w, length-append t.lits e.more_lits));
+    strict = λ i j lt jl. rw e.marks (led.strict i j lt (rw e.marks at jl));
+    each = λ j lt. let w = led.within j (rw e.marks at lt) in rw (e.marks, e.lits, get_or_append_left t.lits e.more_lits 0 (get_or t.marks j 0) w, take-append-le (get_or t.marks j 0) t.lits e.more_lits (omega arith)) (led.each j (rw e.marks at lt));
+  }
+
+  module _ (l : ℕ) (why : Contains assumed l ⊎ All (Contains t.lits) assumed) where
+    old : (j : ℕ) → j < length t.marks → get_or (t.marks ++ length t.lits ∷ []) j 0 ≡ get_or t.marks j 0
+    old j lt = get_or_append_left t.marks (length t.lits ∷ []) 0 j lt
+
+    new : (j : ℕ) → length t.marks ≤ j → j < length (t.marks ++ length t.lits ∷ []) → get_or (t.marks ++ length t.lits ∷ []) j 0 ≡ length t.lits
+    new j le lt = get_or_push t.marks (length t.lits) 0 j (omega (arith, length-append t.marks (length t.lits ∷ [])))
+
+    at_end : (take (length t.lits) (t.lits ++ l ∷ [])) ≡ t.lits
+    at_end = take-append-le (length t.lits) t.lits (l ∷ []) (omega arith) ∙ take_all (length t.lits) t.lits (omega arith)
+
+    why_new : Contains assumed (get_or (t.lits ++ l ∷ []) (length t.lits) 0) ⊎ All (Contains (take (length t.lits) (t.lits ++ l ∷ []))) assumed
+    why_new = elim why [ inl a ↦ inl (rw (get_or_push t.lits l 0 (length t.lits) refl) a) | inr a ↦ inr (subst (λ (xs : List ℕ). All (Contains xs) assumed) (sym at_end) a) ]
+
+    each' : (j : ℕ) → j < length (t.marks ++ length t.lits ∷ []) → Contains assumed (get_or (t.lits ++ l ∷ []) (get_or (t.marks ++ length t.lits ∷ []) j 0) 0) ⊎ All (Contains (take (get_or (t.marks ++ length t.lits ∷ []) j 0) (t.lits ++ l ∷ []))) assumed
+    each' j lt = elim (cases_lt j (length t.marks)) [
+      | inl below ↦ let w = led.within j below in rw (old j below, get_or_append_left t.lits (l ∷ []) 0 (get_or t.marks j 0) w, take-append-le (get_or t.marks j 0) t.lits (l ∷ []) (omega arith)) (led.each j below)
+      | inr le ↦ rw (new j le lt) why_new
+    ]
+
+    pub IsLed-decide : IsLed assumed (with_lit l None (with_level t))
+    IsLed-decide = record {
+      within = λ j lt. elim (cases_lt j (length t.marks)) [
+        | inl below ↦ let w = led.within j below in rw (old j below) (omega (arith, length-append t.lits (l ∷ [])))
+        | inr le ↦ rw (new j le lt) (omega (arith, length-append t.lits (l ∷ [])))
+      ];
+      strict = λ i j lt jl. elim (cases_lt j (length t.marks)) [
+        | inl below ↦ let b : i < length t.marks = omega arith in rw (old i b, old j below) (led.strict i j lt below)
+        | inr le ↦ let b : i < length t.marks = omega (arith, length-append t.marks (length t.lits ∷ [])) in rw (old i b, new j le jl) (led.within i b)
+      ];
+      each = each';
+    }
+
+  pub IsLed-cut : (level : ℕ) → level < length t.marks → IsLed assumed (cut_at level t)
+  IsLed-cut level lt = record {
+    within = λ j jl. let b = low j jl in rw (marks_at j b, lits_len) (led.strict j level b lt);
+    strict = λ i j ij jl. let b = low j jl in let a : i < level = omega arith in rw (marks_at i a, marks_at j b) (led.strict i j ij (omega arith));
+    each = λ j jl. let b = low j jl in let m = led.strict j level b lt in
+        rw (marks_at j b, get_or-take (get_or t.marks level 0) t.lits (get_or t.marks j 0) 0 m, take-take (get_or t.marks j 0) (get_or t.marks level 0) t.lits (omega arith)) (led.each j (omega arith));
+  }
+    where
+      low : (j : ℕ) → j < length (take level t.marks) → j < level
+      low j jl = omega (arith, length-take level t.marks)
+
+      marks_at : (j : ℕ) → j < level → get_or (take level t.marks) j 0 ≡ get_or t.marks j 0
+      marks_at j jl = get_or-take level t.marks j 0 jl
+
+      lits_len : length (take (get_or t.marks level 0) t.lits) ≡ get_or t.marks level 0
+      lits_len = length-take-le (get_or t.marks level 0) t.lits (let w = led.within level lt in omega arith)

@@ -1,0 +1,234 @@
+-- What steps of a search keep.
+use Rattle.std.proofs.Common.{◌≡◌, ℕ, ◌+◌, ◌-◌, ◌<◌, ◌≤◌, None, List, [], ◌∷◌, ◌++◌, length, take, map, get_or, refl, sym, ap, ◌∙◌, subst, arith, ◌⊎◌, inl, inr, length-append, append_assoc}
+use Rattle.std.specs.List.{All, Contains}
+use Rattle.std.proofs.lemmas.List.{map-append, append-nil, get_or_push}
+use Rattle.std.proofs.lemmas.List.Elements.{All-push, All-map, All-weaker, Contains-get_or, Contains-append_left, Contains-push, Contains-push_cases}
+use Rattle.gi_lit.specs.Literals.{opposite}
+use Rattle.gi_lit.specs.Closure.{IsFalsified, IsSettled, IsClosed, Conflicts}
+use Rattle.gi_lit.specs.Problem.{Problem, IsWellFormed}
+use Rattle.gi_lit.specs.Learnt.{IsImplied, IsFresh, IsDerived}
+use Rattle.gi_store.specs.Held.{Entry, Held, Holds, IsLive, IsWithin, Keeps, entries, keys_of, problem_of, known_of, with_learnt}
+use Rattle.gi_prop.specs.Assigned.{Assigned, IsTrail, no_lits, with_lit, with_level, cut_at}
+use Rattle.gi_prop.specs.Attached.{Attached, IsAttached, Goes, Attaches, HasSameKeys, AddsForced, AreSettled}
+use Rattle.gi_prop.proofs.Adding.{goes_edit}
+use Rattle.gi_cdcl.specs.Sound.{stored, IsUsed, IsSupported, IsSound}
+use Rattle.gi_cdcl.specs.Uip.{IsUip, IsJump}
+use Rattle.gi_cdcl.specs.Assumed.{IsLed}
+use Rattle.gi_cdcl.specs.Ends.{EndsNonempty, IsTaught, AreTaught}
+use Rattle.gi_cdcl.specs.Searching.{AreKnown}
+use Rattle.gi_cdcl.specs.Going.{AreAttached, IsTied, IsReady, HasPassed, IsGoing, HasLearnt}
+use Rattle.gi_cdcl.proofs.Uip.{holds_stored, holds_live, uip_one_high}
+use Rattle.gi_cdcl.proofs.Trails.{Grows, entries_learnt, IsSound-learnt, IsSound-grows, IsSound-decide, IsSound-cut, IsLeveled-grows, IsLeveled-decide, IsLeveled-jump}
+use Rattle.gi_cdcl.proofs.Fresh.{uip_fresh, empty_fresh, root_conflict, AreFresh-push}
+use Rattle.gi_cdcl.proofs.Assuming.{IsLed-grows, IsLed-decide, IsLed-cut}
+use Rattle.gi_cdcl.proofs.Stores.{used_within, all_used}
+use Rattle.gi_cdcl.proofs.Teaching.{stored_is}
+
+-- one key more is in use
+keys_learnt : (key : ℕ) (c : List ℕ) (h : Held) → keys_of (with_learnt key c h) ≡ keys_of h ++ key ∷ []
+keys_learnt key c h = ap (λ (xs : List Entry). map (λ (e : Entry). e.key) xs) (entries_learnt key c h) ∙ map-append (λ (e : Entry). e.key) (entries h) (record { key = key; lits = c } ∷ [])
+
+pub live_on : (key : ℕ) (c : List ℕ) (h : Held) (k : ℕ) → IsLive h k → IsLive (with_learnt key c h) k
+live_on key c h k l = subst (λ (xs : List ℕ). Contains xs k) (sym (keys_learnt key c h)) (Contains-append_left (keys_of h) (key ∷ []) k l)
+
+pub live_new : (key : ℕ) (c : List ℕ) (h : Held) → IsLive (with_learnt key c h) key
+live_new key c h = subst (λ (xs : List ℕ). Contains xs key) (sym (keys_learnt key c h)) (Contains-push (keys_of h) key)
+
+pub live_cases : (key : ℕ) (c : List ℕ) (h : Held) (k : ℕ) → IsLive (with_learnt key c h) k → IsLive h k ⊎ (key ≡ k)
+live_cases key c h k l = Contains-push_cases (keys_of h) key k (subst (λ (xs : List ℕ). Contains xs k) (keys_learnt key c h) l)
+
+pub goes_learnt : (p : Attached) (h : Held) (t : Assigned) (new : Held) (key : ℕ) (c : List ℕ) → AreAttached p h t → new ≡ with_learnt key c h → Keeps h new → Goes p new t
+goes_learnt p h t new key c a e keeps = goes_edit p h new t a.goes keeps (λ k l. subst (λ (s : Held). IsLive s k) (sym e) (live_on key c h k (a.only k l)))
+
+attached_learnt : (p q : Attached) (h : Held) (t : Assigned) (key : ℕ) (c : List ℕ) → AreAttached p h t → Attaches key p q → Goes q (with_learnt key c h) t → AreAttached q (with_learnt key c h) t
+attached_learnt p q h t key c a m g = record {
+  goes = g;
+  all = λ k l. elim (live_cases key c h k l) [ inl old ↦ m.kept k (a.all k old) | inr e ↦ subst (IsAttached q) e m.there ];
+  only = λ k l. elim (m.others k l) [ inl e ↦ subst (IsLive (with_learnt key c h)) (sym e) (live_new key c h) | inr old ↦ live_on key c h k (a.only k old) ];
+}
+
+pub tied_learnt : (p q : Attached) (h : Held) (t : Assigned) (new : Held) (key : ℕ) (c : List ℕ) → IsTied p h t → new ≡ with_learnt key c h → Attaches key p q → Goes q new t → IsTied q new t
+tied_learnt p q h t new key c a e m g = subst (λ (s : Held). IsTied q s t) (sym e) (record { attached = attached_learnt p q h t key c a.attached m (subst (λ (s : Held). Goes q s t) e g); room = a.room })
+
+-- what propagation adds
+pub grows_of : (q : Attached) (h : Held) (t b : Assigned) → AddsForced q h t b → Grows h t b
+grows_of q h t b a = record {
+  vars = a.vars;
+  marks = a.marks;
+  more_lits = a.more;
+  lits = a.lits;
+  more_reasons = a.why;
+  reasons = a.reasons;
+  forced = λ k le lt. let f = a.each k le lt in subst (IsSupported h b k) (sym f.reason) (f.clause, f.held, f.forces);
+}
+
+pub attached_same : (p q : Attached) (h : Held) (t b : Assigned) → AreAttached p h t → HasSameKeys p q → Goes q h b → AreAttached q h b
+attached_same p q h t b a s g = record { goes = g; all = λ k l. s.kept k (a.all k l); only = λ k l. a.only k (s.others k l) }
+
+pub closed_of : (q : Attached) (h : Held) (b : Assigned) → AreAttached q h b → AreSettled q h b.lits → IsClosed (stored h) b.lits
+closed_of q h b a s = record { each = All-map (λ c. IsSettled b.lits c) (λ (e : Entry). e.lits) (entries h) (λ k d lt. one (get_or (entries h) k d) (Contains-get_or (entries h) k d lt)) }
+  where
+    one : (e : Entry) → Contains (entries h) e → IsSettled b.lits e.lits
+    one e k = s.each e.key e.lits (a.all e.key (holds_live h e.key e.lits k)) k
+
+passed_more : (h : Held) (t b : Assigned) (assumed more : List ℕ) (vars lits : ℕ) → b.lits ≡ t.lits ++ more → HasPassed h t assumed vars lits → HasPassed h b assumed vars lits
+passed_more h t b assumed more vars lits e p = record {
+  vars_are = record { each = λ l u le. elim (p.vars_are.each l u le) [ inl k ↦ inl (up l k) | inr k ↦ inr (up (opposite l) k) ] };
+  lits_are = All-weaker (Contains t.lits) (Contains b.lits) up (take lits assumed) p.lits_are;
+}
+  where
+    up : (l : ℕ) → Contains t.lits l → Contains b.lits l
+    up l k = subst (λ (xs : List ℕ). Contains xs l) (sym e) (Contains-append_left t.lits more l k)
+
+pub going_grows : (p q : Attached) (h : Held) (t b : Assigned) (assumed : List ℕ) (vars lits : ℕ) → IsTrail t → IsGoing p h t assumed vars lits → HasSameKeys p q → Goes q h b → AddsForced q h t b → IsGoing q h b assumed vars lits
+going_grows p q h t b assumed vars lits tr g s gs a =
+    let w = grows_of q h t b a in
+    record {
+      known = g.known;
+      tied = record { attached = attached_same p q h t b g.tied.attached s gs; room = rw a.vars g.tied.room };
+      ready = record { sound = IsSound-grows h t tr g.ready.sound b w; leveled = IsLeveled-grows h t tr g.ready.leveled b w };
+      led = IsLed-grows assumed t g.led h b w;
+      within = g.within;
+      passed = passed_more h t b assumed a.more vars lits a.lits g.passed;
+    }
+
+-- a decision
+module _ (p : Attached) (h : Held) (t : Assigned) (assumed : List ℕ) (v0 l0 : ℕ) (tr : IsTrail t) (g : IsGoing p h t assumed v0 l0) (cl : IsClosed (stored h) t.lits) where
+  decided : (l vars lits : ℕ) → Contains assumed l ⊎ All (Contains t.lits) assumed → HasPassed h t assumed vars lits → Goes p h (with_lit l None (with_level t)) → IsGoing p h (with_lit l None (with_level t)) assumed vars lits
+  decided l vars lits why passed goes = record {
+    known = g.known;
+    tied = record { attached = record { goes = goes; all = g.tied.attached.all; only = g.tied.attached.only }; room = g.tied.room };
+    ready = record { sound = IsSound-decide h t tr g.ready.sound l; leveled = IsLeveled-decide h t tr g.ready.leveled cl l };
+    led = IsLed-decide assumed t g.led l why;
+    within = g.within;
+    passed = passed_more h t (with_lit l None (with_level t)) assumed (l ∷ []) vars lits refl passed;
+  }
+
+  pub leads_decided : (b : Assigned) (l vars lits : ℕ) → b ≡ with_lit l None (with_level t) → Contains assumed l ⊎ All (Contains t.lits) assumed → HasPassed h t assumed vars lits → ((p : Attached) (s : Held) → Goes p s t → Goes p s b) → length t.lits < t.vars
+      → IsGoing p h b assumed vars lits × (b.vars ≡ t.vars) × (length t.lits < length b.lits) × (length b.lits ≤ b.vars)
+  leads_decided b l vars lits e why passed goes room =
+      let n : length b.lits ≡ length t.lits + 1 = ap (λ (x : Assigned). length x.lits) e ∙ length-append t.lits (l ∷ []) in
+      let m : b.vars ≡ t.vars = ap (λ (x : Assigned). x.vars) e in (
+        subst (λ (x : Assigned). IsGoing p h x assumed vars lits) (sym e) (decided l vars lits why passed (subst (λ (x : Assigned). Goes p h x) e (goes p h g.tied.attached.goes))),
+        m,
+        omega (arith, n),
+        omega (arith, n, m, room),
+      )
+
+known_learnt : (key : ℕ) (c : List ℕ) (h : Held) → known_of (with_learnt key c h) ≡ known_of h ++ c ∷ []
+known_learnt key c h = map-append (λ (e : Entry). e.lits) h.learnt (record { key = key; lits = c } ∷ [])
+
+-- with a fresh clause
+pub AreKnown-learnt : (key : ℕ) (c : List ℕ) (h : Held) → AreKnown h → IsFresh (problem_of h) (known_of h) c → AreKnown (with_learnt key c h)
+AreKnown-learnt key c h f n = record {
+  implied = subst (All (IsImplied (problem_of h))) (sym (known_learnt key c h)) (All-push (IsImplied (problem_of h)) (known_of h) c f.implied n.implied);
+  used = subst (All (All (IsUsed h))) (sym (known_learnt key c h)) (All-push (All (IsUsed h)) (known_of h) c f.used n.within);
+}
+
+-- one more that is taught
+AreTaught-push : (h : Held) (es : List Entry) (e : Entry) → AreTaught h es → IsTaught (record h { learnt = h.learnt ++ es }) e.lits → AreTaught h (es ++ e ∷ [])
+AreTaught-push h [] e a t = (subst (λ (xs : List Entry). IsTaught (record h { learnt = xs }) e.lits) (append-nil h.learnt) t, tt)
+AreTaught-push h (x ∷ xs) e a t = (a.0, AreTaught-push (with_learnt x.key x.lits h) xs e a.1 (subst (λ (ys : List Entry). IsTaught (record h { learnt = ys }) e.lits) (sym (append_assoc h.learnt (x ∷ []) xs)) t))
+
+pub HasLearnt-none : (old : Held) → HasLearnt old old []
+HasLearnt-none old = record { learns = record { entries = []; are = refl; new_is = ap (λ (xs : List Entry). record old { learnt = xs }) (sym (append-nil old.learnt)); taught = tt }; fresh = tt }
+
+HasLearnt-push : (old now : Held) (news : List (List ℕ)) → HasLearnt old now news → (key : ℕ) (c : List ℕ) → IsTaught now c → IsFresh (problem_of now) (known_of now) c × IsDerived (problem_of now) (known_of now) c → HasLearnt old (with_learnt key c now) (news ++ c ∷ [])
+HasLearnt-push old now news h key c t n =
+    let l = h.learns in
+    let e : Entry = record { key = key; lits = c } in
+    let known_is : known_of now ≡ known_of old ++ news = ap known_of l.new_is ∙ map-append (λ (e : Entry). e.lits) old.learnt l.entries ∙ ap (λ (xs : List (List ℕ)). known_of old ++ xs) (sym l.are) in
+    let problem_is : problem_of now ≡ problem_of old = ap problem_of l.new_is in
+    record {
+      learns = record {
+        entries = l.entries ++ e ∷ [];
+        are = ap (λ (xs : List (List ℕ)). xs ++ c ∷ []) l.are ∙ sym (map-append (λ (e : Entry). e.lits) l.entries (e ∷ []));
+        new_is = ap (λ (s : Held). with_learnt key c s) l.new_is ∙ ap (λ (xs : List Entry). record old { learnt = xs }) (append_assoc old.learnt l.entries (e ∷ []));
+        taught = AreTaught-push old l.entries e l.taught (subst (λ (s : Held). IsTaught s c) l.new_is t);
+      };
+      fresh = AreFresh-push (problem_of old) (known_of old) news c h.fresh (subst (λ (ks : List (List ℕ)). IsFresh (problem_of old) ks c × IsDerived (problem_of old) ks c) known_is (subst (λ (p : Problem). IsFresh p (known_of now) c × IsDerived p (known_of now) c) problem_is n));
+    }
+
+pub learnt_more : (s old new : Held) (news more : List (List ℕ)) (key : ℕ) (c : List ℕ) → new ≡ with_learnt key c old → more ≡ news ++ c ∷ [] → IsTaught old c → IsFresh (problem_of old) (known_of old) c × IsDerived (problem_of old) (known_of old) c → HasLearnt s old news → HasLearnt s new more
+learnt_more s old new news more key c e f t n h = subst (λ (x : Held). HasLearnt s x more) (sym e) (subst (HasLearnt s (with_learnt key c old)) (sym f) (HasLearnt-push s old news h key c t n))
+
+pub learnt_same : (s old new : Held) (news more : List (List ℕ)) → new ≡ old → more ≡ news → HasLearnt s old news → HasLearnt s new more
+learnt_same s old new news more e f h = subst (λ (x : Held). HasLearnt s x more) (sym e) (subst (HasLearnt s old) (sym f) h)
+
+pub passed_none : (h : Held) (t : Assigned) (assumed : List ℕ) → IsWellFormed (problem_of h) → HasPassed h t assumed 0 0
+passed_none h t assumed w = record {
+  vars_are = record { each = λ l u le. absurd (let r = used_within h w l u in omega (arith, r.0, le)) };
+  lits_are = λ k d lt. absurd (omega arith);
+}
+
+-- a conflict above level 0
+module _ (h : Held) (w : IsWellFormed (problem_of h)) (f : AreKnown h) (t : Assigned) (tr : IsTrail t) (r : IsReady h t) (deep : 0 < length t.marks) (key : ℕ) (conflict : List ℕ) (held : Holds h key conflict) (false' : IsFalsified t.lits conflict) (learnt : List ℕ) (u : IsUip h t conflict (get_or t.marks (length t.marks - 1) 0) learnt) where
+  front_closed : IsClosed (stored h) (take (get_or t.marks (length t.marks - 1) 0) t.lits)
+  front_closed = r.leveled.closed (length t.marks - 1) (omega arith)
+
+  pub learnt_fresh : IsFresh (problem_of h) (known_of h) learnt × IsDerived (problem_of h) (known_of h) learnt
+  learnt_fresh = uip_fresh h (stored_is h) f.implied t tr conflict (get_or t.marks (length t.marks - 1) 0) learnt front_closed (all_used h w f.used) (holds_stored h key conflict held) false' u
+
+  pub learnt_within : IsWithin h.vars learnt
+  learnt_within = λ k d lt. used_within h w _ (learnt_fresh.0.within k d lt)
+
+  pub learnt_taught : IsTaught h learnt
+  learnt_taught = record { trail = t; is_trail = tr; sound = r.sound; key = key; conflict = conflict; holds = held; falsified = false'; teaches = inr (deep, u) }
+
+  pub learnt_nonempty : 0 < length learnt
+  learnt_nonempty = let o = uip_one_high h t conflict _ false' learnt u in let s = o.stands in omega (arith, s.1)
+
+  -- and the jump back
+  pub going_jump : (p q : Attached) (new : Held) (b : Assigned) (at level : ℕ) (assumed : List ℕ) → IsJump t learnt (get_or t.marks (length t.marks - 1) 0) level → new ≡ with_learnt at learnt h → b ≡ cut_at level t → IsTied q new b → IsLed assumed t → IsWithin h.vars assumed → IsGoing q new b assumed 0 0
+  going_jump p q new b at level assumed j e eb tied led within =
+      subst (λ (x : Held). IsGoing q x b assumed 0 0) (sym e) (subst (λ (y : Assigned). IsGoing q (with_learnt at learnt h) y assumed 0 0) (sym eb) (record {
+        known = AreKnown-learnt at learnt h f learnt_fresh.0;
+        tied = subst (IsTied q (with_learnt at learnt h)) eb (subst (λ (x : Held). IsTied q x b) e tied);
+        ready = record {
+          sound = IsSound-learnt h (cut_at level t) (IsSound-cut h t tr r.sound level j.below) at learnt;
+          leveled = IsLeveled-jump h t tr r.leveled (get_or t.marks (length t.marks - 1) 0) refl learnt level (uip_one_high h t conflict _ false' learnt u) j at;
+        };
+        led = IsLed-cut assumed t led level j.below;
+        within = within;
+        passed = passed_none (with_learnt at learnt h) (cut_at level t) assumed w;
+      }))
+
+-- a conflict where nothing was decided
+module _ (h : Held) (f : AreKnown h) (t : Assigned) (tr : IsTrail t) (s : IsSound h t) (root : t.marks ≡ []) (key : ℕ) (conflict : List ℕ) (held : Holds h key conflict) (false' : IsFalsified t.lits conflict) where
+  pub empty_conflicts : Conflicts (stored h) []
+  empty_conflicts = root_conflict h t conflict s (ap length root) (holds_stored h key conflict held) false'
+
+  pub empty_is_fresh : All (λ c. 0 < length c) (stored h) → IsFresh (problem_of h) (known_of h) [] × IsDerived (problem_of h) (known_of h) []
+  empty_is_fresh full' = empty_fresh h (stored_is h) f.implied full' empty_conflicts
+
+  pub empty_taught : IsTaught h []
+  empty_taught = record { trail = t; is_trail = tr; sound = s; key = key; conflict = conflict; holds = held; falsified = false'; teaches = inl (root, refl) }
+
+pub going_passed : (p : Attached) (h : Held) (t : Assigned) (assumed : List ℕ) (v0 l0 vars lits : ℕ) → IsGoing p h t assumed v0 l0 → HasPassed h t assumed vars lits → IsGoing p h t assumed vars lits
+going_passed p h t assumed v0 l0 vars lits g passed = record { known = g.known; tied = g.tied; ready = g.ready; led = g.led; within = g.within; passed = passed }
+
+-- the news with one more
+last_is : (old new : List (List ℕ)) (c : List ℕ) → new ≡ old ++ c ∷ [] → (length new ≡ length old + 1) × (get_or new (length new - 1) [] ≡ c)
+last_is old new c e =
+    let n : length new ≡ length old + 1 = ap (λ (xs : List (List ℕ)). length xs) e ∙ length-append old (c ∷ []) in
+    (n, ap (λ (xs : List (List ℕ)). get_or xs (length new - 1) []) e ∙ get_or_push old c [] (length new - 1) (omega (arith, n)))
+
+pub adds_learnt : (old new : List (List ℕ)) (c : List ℕ) → new ≡ old ++ c ∷ [] → 0 < length c → (length new ≡ length old + 1) × EndsNonempty new
+adds_learnt old new c e lt = let l = last_is old new c e in let n = l.0 in (n, (omega (arith, n), subst (λ (xs : List ℕ). 0 < length xs) (sym l.1) lt))
+
+pub adds_refuted : (old new : List (List ℕ)) → new ≡ old ++ [] ∷ [] → (length new ≡ length old + 1) × ¬ EndsNonempty new
+adds_refuted old new e = let l = last_is old new [] e in (l.0, λ q. let z : 0 < length (get_or new (length new - 1) []) = q.1 in let y : length (get_or new (length new - 1) []) ≡ 0 = ap (λ (xs : List ℕ). length xs) l.1 in omega (arith, z, y))
+
+-- the trail is empty
+pub going_start : (p : Attached) (h : Held) (t : Assigned) (assumed : List ℕ) → IsWellFormed (problem_of h) → AreKnown h → AreAttached p h t → t ≡ no_lits t.vars → h.vars ≤ t.vars → IsWithin h.vars assumed → IsGoing p h t assumed 0 0
+going_start p h t assumed w known a e room within =
+    let no_lit : length t.lits ≡ 0 = ap (λ (x : Assigned). length x.lits) e in
+    let no_mark : length t.marks ≡ 0 = ap (λ (x : Assigned). length x.marks) e in
+    record {
+      known = known;
+      tied = record { attached = a; room = room };
+      ready = record { sound = record { each = λ k lt. absurd (omega (arith, lt, no_lit)) }; leveled = record { closed = λ j lt. absurd (omega (arith, lt, no_mark)) } };
+      led = record { within = λ j lt. absurd (omega (arith, lt, no_mark)); strict = λ i j ij lt. absurd (omega (arith, lt, no_mark)); each = λ j lt. absurd (omega (arith, lt, no_mark)) };
+      within = within;
+      passed = passed_none h t assumed w;
+    }

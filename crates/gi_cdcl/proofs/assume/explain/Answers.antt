@@ -1,0 +1,16 @@
+use Rattle.std.proofs.Common.{◌≡◌, arith, ap, ◌∙◌, length, inl, inr}
+use Rattle.std.proofs.lemmas.List.{take_at}
+use Rattle.gi_lit.proofs.Closure.{given_derives}
+use Rattle.gi_cdcl.specs.Sound.{stored}
+use Rattle.gi_cdcl.proofs.Assuming.{decisions_assumed}
+use Rattle.gi_cdcl.proofs.assume.explain.Goals as goal
+
+pub returns-clause-conflicts : goal.returns-clause-conflicts
+returns-clause-conflicts c =
+    let w = c.in_ok-found.found in
+    let seen_is : c.deref.result.now ≡ c.trace.new.seen = c.deref.ensures.value ∙ take_at c.trace.new.seen _ c.in_ok-seen.seen.len (let l = c.trace.ensures.len in let m = c.in_ok-seen.ensures.len in omega (arith, l, m, ap length c.lits.ensures.value)) in
+    c.trace.ensures.leads w w (given_derives (stored c.args.store.now) w) (c.in_ok-found.ensures.failed c.requires.assumed)
+    (λ k kl q side. elim side [
+      | inl lt ↦ absurd (omega arith)
+      | inr mk ↦ c.in_ok-found.ensures.marked k kl (rw seen_is q) (decisions_assumed c.args.trail.now c.args.assumed.now c.args.failed c.lits.ensures.trail.consistent c.requires.led c.requires.assumed c.requires.failed k mk)
+    ])

@@ -1,0 +1,25 @@
+-- What a step of a search leads to.
+use Rattle.std.specs.Prelude.{◌≡◌, ℕ, ◌+◌, ◌<◌, ◌≤◌, List, [], length}
+use Rattle.gi_store.specs.Held.{Held, problem_of, known_of}
+use Rattle.gi_prop.specs.Assigned.{Assigned}
+use Rattle.gi_prop.specs.Attached.{Attached}
+use Rattle.gi_cdcl.specs.Ends.{EndsNonempty, IsModel, IsFailing}
+use Rattle.gi_cdcl.specs.Going.{IsTied, IsGoing}
+use Rattle.gi_cdcl.specs.declared.step.Step.{Step}
+use Rattle.gi_cdcl.specs.declared.step.Step.TheVariants.{Decided, Learnt, Refuted, Sat, Failed}
+
+-- how the news grow: a step learns one clause or none, and the empty one where it refutes
+abbrev pub AddsNews : List (List ℕ) → List (List ℕ) → Step → Type 0
+AddsNews old new Decided = new ≡ old
+AddsNews old new Learnt = (length new ≡ length old + 1) × EndsNonempty new
+AddsNews old new Refuted = (length new ≡ length old + 1) × ¬ EndsNonempty new
+AddsNews old new (Sat values) = new ≡ old
+AddsNews old new (Failed w) = new ≡ old
+
+-- the search goes on with a literal more or a clause more, or it has a verdict
+abbrev pub LeadsTo : Assigned → Attached → Held → Assigned → List ℕ → ℕ → ℕ → Step → Type 0
+LeadsTo before p h t assumed vars lits Decided = IsGoing p h t assumed vars lits × (t.vars ≡ before.vars) × (length before.lits < length t.lits) × (length t.lits ≤ t.vars)
+LeadsTo before p h t assumed vars lits Learnt = IsGoing p h t assumed vars lits × (t.vars ≡ before.vars)
+LeadsTo before p h t assumed vars lits Refuted = IsTied p h t × IsFailing (problem_of h) assumed (known_of h) []
+LeadsTo before p h t assumed vars lits (Sat values) = IsTied p h t × IsModel (problem_of h) assumed values
+LeadsTo before p h t assumed vars lits (Failed w) = IsTied p h t × IsFailing (problem_of h) assumed (known_of h) w

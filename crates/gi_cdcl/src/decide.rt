@@ -1,0 +1,137 @@
+ghost use Rattle.std.specs.Prelude.{◌≡◌, ℕ, ◌+◌, ◌*◌, ◌/◌, ◌<◌, ◌≤◌, ◌⊎◌, length, Contains, IfOk, IfSome, IfNone, OnOk, None};
+ghost use Rattle.gi_lit.specs.Literals.{opposite};
+ghost use Rattle.gi_store.specs.Held.{Held};
+ghost use Rattle.gi_prop.specs.Assigned.{HasValue, IsTrail, with_lit, with_level};
+ghost use Rattle.gi_prop.specs.Attached.{Attached, Goes};
+ghost use Rattle.gi_cdcl.specs.Sound.{IsUsed};
+ghost use Rattle.gi_cdcl.specs.Values.{AllAssigned, IsPassed, IsValueOf, IsAssignment};
+
+use gi_lit::{Assign, Lit, Var};
+use gi_prop::Trail;
+use gi_store::Store;
+use std::alloc::{AllocError, Global};
+
+/// The variable behind `i` others.
+fn variable(i: u32) -> Var
+    requires { i < 1048576 }
+    ensures { result ≡ i + 1 }
+{
+    match Var::new(i + 1) {
+        Some(v) => v,
+        None => unreachable!(),
+    }
+}
+
+/// A literal of a variable.
+fn literal(v: Var, phase: bool) -> Lit
+    ensures { result / 2 ≡ v }
+{
+    if phase { v.positive() } else { v.negative() }
+}
+
+/// The last value of a variable; false of one that never had a value.
+fn phase_of(phases: &[bool], v: Var) -> bool {
+    match phases.get((v.index() - 1) as usize) {
+        Some(phase) => *phase,
+        None => false,
+    }
+}
+
+/// The literal to decide of a variable: none where it has a value, and of a variable that is no more in use.
+fn candidate(store: &Store, trail: &Trail, v: Var, phase: bool) -> Option<Lit>
+    requires { v ≤ trail.now.vars }
+    ensures free { IfSome result (λ l. (l / 2 ≡ v) × HasValue trail.now.lits l None) }
+    ensures other { IfNone result ((l : ℕ) → l / 2 ≡ v → IsUsed store.now l → Contains trail.now.lits l ⊎ Contains trail.now.lits (opposite l)) }
+{
+    if !store.is_problem_var(v) && !store.is_active(v) {
+        return None;
+    }
+    let l = literal(v, phase);
+    match trail.value(l) {
+        None => Some(l),
+        Some(_) => None,
+    }
+}
+
+/// A literal to decide, of the least variable that has no value, where the first `passed` variables are known to have one; its phase is the last
+/// value. None exactly where all that is in use has a value. Counts the variables that have.
+pub(crate) fn free_literal(
+    store: &Store,
+    trail: &Trail,
+    phases: &[bool],
+    passed: &mut u32,
+) -> Option<Lit>
+    requires vars { store.now.vars ≤ trail.now.vars }
+    requires passed { IsPassed store.now trail.now.lits passed.old }
+    ensures free { IfSome result (λ l. (l / 2 ≤ trail.now.vars) × HasValue trail.now.lits l None) }
+    ensures full { IfNone result (AllAssigned store.now trail.now.lits) }
+    ensures passed { IsPassed store.now trail.now.lits passed.new }
+{
+    let vars = store.vars();
+    while *passed < vars {
+        let v = variable(*passed);
+        match candidate(store, trail, v, phase_of(phases, v)) {
+            Some(l) => return Some(l),
+            None => *passed += 1,
+        }
+    }
+    None
+}
+
+/// Begins a level with a literal.
+pub(crate) fn decide(trail: &mut Trail, l: Lit) -> Result<(), AllocError>
+    requires within { l / 2 ≤ trail.old.vars }
+    requires free { HasValue trail.old.lits l None }
+    ensures ok { OnOk result (trail.new ≡ with_lit l None (with_level trail.old)) }
+    ensures room { OnOk result (length trail.old.lits < trail.old.vars) }
+    ensures goes { (p : Attached) (s : Held) → Goes p s trail.old → Goes p s trail.new }
+{
+    if trail.level() == u32::MAX {
+        return Err(AllocError);
+    }
+    trail.push_level()?;
+    trail.assign(l, None);
+    Ok(())
+}
+
+/// Whether the variable at a place is true.
+fn is_true(trail: &Trail, place: u32) -> bool
+    requires within { place < trail.now.vars }
+    requires small { place < 1048576 }
+    requires trail { IsTrail trail.now }
+    ensures { IsValueOf trail.now.lits place result }
+{
+    let l = variable(place).positive();
+    match trail.value(l) {
+        Some(value) => value,
+        None => false,
+    }
+}
+
+/// The values that make the trail's literals true, of variables 1 to n.
+pub(crate) fn assignment(alloc: Global, trail: &Trail, n: u32) -> Result<Assign, AllocError>
+    requires vars { n ≤ trail.now.vars }
+    requires small { n ≤ 1048576 }
+    requires trail { IsTrail trail.now }
+    ensures { IfOk result (λ values. IsAssignment n trail.now.lits values) }
+{
+    let mut values = Vec::new(alloc);
+    for place in 0..n {
+        values.push(is_true(trail, place))?;
+    }
+    Ok(Assign::from_vec(values))
+}
+
+/// Keeps the values that go when the levels above this one are taken away.
+pub(crate) fn save_phases(phases: &mut [bool], trail: &Trail, level: u32)
+    requires { level < length trail.now.marks }
+{
+    let lits = trail.lits();
+    for place in trail.start_of(level)..lits.len() {
+        let l = lits[place];
+        let at = (l.var().index() - 1) as usize;
+        if at < phases.len() {
+            phases[at] = !l.is_negative();
+        }
+    }
+}

@@ -1,0 +1,125 @@
+ghost use Rattle.std.specs.Prelude.{◌≡◌, ◌+◌, ◌<◌, ◌≤◌, ℕ, List, [], ◌∷◌, ◌++◌, length, IfOk, OnOk};
+ghost use Rattle.gi_lit.specs.Learnt.{IsFresh, IsDerived};
+ghost use Rattle.gi_store.specs.Held.{Held, IsWithin, problem_of, known_of};
+ghost use Rattle.gi_cdcl.specs.Marks.{HasFalse};
+ghost use Rattle.gi_cdcl.specs.Assumed.{IsLed};
+ghost use Rattle.gi_cdcl.specs.Ends.{IsTaught, IsFailing};
+ghost use Rattle.gi_cdcl.specs.Searching.{AreKnown};
+ghost use Rattle.gi_cdcl.specs.Going.{IsTied, IsReady, IsGoing, HasLearnt, HasStored};
+ghost use Rattle.gi_cdcl.specs.Steps.{AddsNews, LeadsTo};
+ghost use Rattle.gi_cdcl.specs.declared.step.Step.TheVariants.{Learnt};
+
+use crate::decide::save_phases;
+use crate::empty::has_empty;
+use crate::engine::Engine;
+use crate::learn::analyze;
+use crate::step::Step;
+use gi_lit::{Clause, Lits};
+use gi_prop::{Prop, Trail};
+use gi_store::{Key, Store};
+use std::alloc::AllocError;
+
+/// Stores a clause that a conflict teaches, as the last of the news, and attaches it. After an error it may stand in the store all the same, and
+/// then it is the last of the news.
+fn add_clause(
+    prop: &mut Prop,
+    trail: &Trail,
+    store: &mut Store,
+    clause: Clause,
+    news: &mut Vec<Clause>,
+) -> Result<(), AllocError>
+    requires within { IsWithin store.old.vars clause }
+    requires tied { IsTied prop.old store.old trail.now }
+    requires taught { IsTaught store.old clause }
+    requires fresh { IsFresh (problem_of store.old) (known_of store.old) clause × IsDerived (problem_of store.old) (known_of store.old) clause }
+    ensures learnt { (s : Held) → HasLearnt s store.old news.old.items → HasLearnt s store.new news.new.items }
+    ensures few { length news.new.items ≤ length news.old.items + 1 }
+    ensures stored { OnOk result (HasStored store.old store.new clause) }
+    ensures news { OnOk result (news.new.items ≡ news.old.items ++ clause ∷ []) }
+    ensures tied { OnOk result (IsTied prop.new store.new trail.now) }
+{
+    news.reserve(1)?;
+    let key = store.learn(clause.as_slice())?;
+    news.push_reserved(clause);
+    let _vars = store.vars();
+    prop.attach(store, trail, key)
+}
+
+/// Learns what a conflict above level 0 teaches, and goes back to the least level at which all its literals but one are false.
+fn learn(
+    engine: &mut Engine,
+    store: &mut Store,
+    conflict: Key,
+    news: &mut Vec<Clause>,
+) -> Result<(), AllocError>
+    requires known { AreKnown store.old }
+    requires tied { IsTied engine.old.prop store.old engine.old.trail }
+    requires ready { IsReady store.old engine.old.trail }
+    requires deep { 0 < length engine.old.trail.marks }
+    requires conflict { HasFalse store.old engine.old.trail.lits conflict }
+    ensures learnt { (s : Held) → HasLearnt s store.old news.old.items → HasLearnt s store.new news.new.items }
+    ensures few { length news.new.items ≤ length news.old.items + 1 }
+    ensures adds { OnOk result (AddsNews news.old.items news.new.items Learnt) }
+    ensures going { OnOk result ((assumed : List ℕ) → IsLed assumed engine.old.trail → IsWithin store.old.vars assumed → IsGoing engine.new.prop store.new engine.new.trail assumed engine.new.vars_passed engine.new.assumed_passed) }
+    ensures vars { OnOk result (engine.new.trail.vars ≡ engine.old.trail.vars) }
+{
+    let _vars = store.vars();
+    let _level = engine.trail.level();
+    let learnt = analyze(engine.alloc, store, &engine.trail, conflict)?;
+    save_phases(&mut engine.phases, &engine.trail, learnt.level);
+    engine.trail.cancel_to(learnt.level);
+    engine.vars_passed = 0;
+    engine.assumed_passed = 0;
+    add_clause(&mut engine.prop, &engine.trail, store, learnt.clause, news)?;
+    Ok(())
+}
+
+/// A conflict where nothing was decided: the clauses fail. The empty clause is learnt, but where a clause is empty already.
+fn refute(
+    engine: &mut Engine,
+    store: &mut Store,
+    news: &mut Vec<Clause>,
+    conflict: Key,
+) -> Result<Step, AllocError>
+    requires known { AreKnown store.old }
+    requires tied { IsTied engine.old.prop store.old engine.old.trail }
+    requires ready { IsReady store.old engine.old.trail }
+    requires root { engine.old.trail.marks ≡ [] }
+    requires conflict { HasFalse store.old engine.old.trail.lits conflict }
+    ensures learnt { (s : Held) → HasLearnt s store.old news.old.items → HasLearnt s store.new news.new.items }
+    ensures few { length news.new.items ≤ length news.old.items + 1 }
+    ensures adds { IfOk result (AddsNews news.old.items news.new.items) }
+    ensures leads { IfOk result (λ step. (assumed : List ℕ) → LeadsTo engine.old.trail engine.new.prop store.new engine.new.trail assumed engine.new.vars_passed engine.new.assumed_passed step) }
+{
+    let _vars = store.vars();
+    let _level = engine.trail.level();
+    let empty = Lits::new(engine.alloc);
+    if has_empty(store) {
+        return Ok(Step::Failed(empty));
+    }
+    add_clause(&mut engine.prop, &engine.trail, store, empty, news)?;
+    Ok(Step::Refuted)
+}
+
+/// Faces a conflict.
+pub(crate) fn face(
+    engine: &mut Engine,
+    store: &mut Store,
+    conflict: Key,
+    news: &mut Vec<Clause>,
+) -> Result<Step, AllocError>
+    requires known { AreKnown store.old }
+    requires tied { IsTied engine.old.prop store.old engine.old.trail }
+    requires ready { IsReady store.old engine.old.trail }
+    requires conflict { HasFalse store.old engine.old.trail.lits conflict }
+    ensures learnt { (s : Held) → HasLearnt s store.old news.old.items → HasLearnt s store.new news.new.items }
+    ensures few { length news.new.items ≤ length news.old.items + 1 }
+    ensures adds { IfOk result (AddsNews news.old.items news.new.items) }
+    ensures leads { IfOk result (λ step. (assumed : List ℕ) → IsLed assumed engine.old.trail → IsWithin store.old.vars assumed → LeadsTo engine.old.trail engine.new.prop store.new engine.new.trail assumed engine.new.vars_passed engine.new.assumed_passed step) }
+{
+    if engine.trail.level() == 0 {
+        return refute(engine, store, news, conflict);
+    }
+    learn(engine, store, conflict, news)?;
+    Ok(Step::Learnt)
+}
