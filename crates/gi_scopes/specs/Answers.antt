@@ -1,0 +1,29 @@
+-- What tests and questions for reasons answer, and what tests leave.
+use Rattle.std.specs.Prelude.{◌≡◌, ℕ, List, [], ◌∷◌, ◌++◌, Contains}
+use Rattle.gi_lit.specs.Problem.{Problem}
+use Rattle.gi_model.specs.State.{Scope, listed, failing, scope_listed}
+use Rattle.gi_model.specs.Tests.{AnswersTest, Explains}
+use Rattle.gi_model.specs.declared.replies.Reply.TheVariants as reply
+use Rattle.gi_scopes.specs.Open.{Open, asked, AreReasoned}
+use Rattle.gi_scopes.specs.declared.answers.Tested.{Tested}
+use Rattle.gi_scopes.specs.declared.answers.Tested.TheVariants as tested
+use Rattle.gi_scopes.specs.declared.answers.Reasoned.{Reasoned}
+use Rattle.gi_scopes.specs.declared.answers.Reasoned.TheVariants as reasoned
+
+-- the answer to a test with these assumptions over these scopes; want of memory is free
+abbrev pub Answers : Problem → List Scope → List ℕ → Tested → Type 0
+Answers p scopes assumed (tested.Implied ls) = AnswersTest (asked p scopes assumed) (reply.Implied ls)
+Answers p scopes assumed (tested.Failed w) = AnswersTest (asked p scopes assumed) (reply.Failed w)
+Answers p scopes assumed tested.NoMemory = Unit {0}
+
+-- a test opens a scope with its assumptions and with what it found; want of memory changes nothing
+abbrev pub Opens : Open → List ℕ → Tested → Open → Type 0
+Opens old assumed (tested.Implied ls) new = new.scopes ≡ old.scopes ++ record { assumed = assumed; found = listed ls } ∷ []
+Opens old assumed (tested.Failed w) new = new.scopes ≡ old.scopes ++ record { assumed = assumed; found = failing w } ∷ []
+Opens old assumed tested.NoMemory new = new ≡ old
+
+-- the reasons explain the literal; it isn't implied exactly where no open scope lists it
+abbrev pub Tells : Open → ℕ → Reasoned → Type 0
+Tells o m (reasoned.Reasons rs) = Contains (scope_listed o.scopes) m × ((p : Problem) → AreReasoned p o → Explains (asked p o.scopes []) m rs)
+Tells o m reasoned.NotImplied = ¬ Contains (scope_listed o.scopes) m
+Tells o m reasoned.NoMemory = Contains (scope_listed o.scopes) m

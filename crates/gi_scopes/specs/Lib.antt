@@ -1,0 +1,5 @@
+pub mod Viewed
+pub mod Open
+pub mod Answers
+pub mod Kept
+pub mod Laws
