@@ -1,1 +1,10 @@
+pub mod Fronts
 pub mod Listing
+pub mod Shadowing
+pub mod Tracing
+pub mod Attaching
+pub mod Noting
+pub mod Assuming
+pub mod Opening
+pub mod Failing
+pub mod Placing

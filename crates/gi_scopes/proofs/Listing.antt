@@ -58,7 +58,7 @@ chosen_less given [] ys h = tt
 chosen_less given (sc ∷ xs) ys h = (h.0, chosen_less (given ++ sc.assumed) xs ys h.1)
 
 -- what comes before a listed literal depends on the scopes up to its own alone
-before-append : (xs ys : List Scope) (m : ℕ) → has (scope_listed xs) m ≡ true → before (xs ++ ys) m ≡ before xs m
+pub before-append : (xs ys : List Scope) (m : ℕ) → has (scope_listed xs) m ≡ true → before (xs ++ ys) m ≡ before xs m
 unfolding before scope_listed
 before-append [] ys m h = absurd (false≢true h)
 before-append (sc ∷ xs) ys m h = ap (λ ls. sc.assumed ++ (take_while (λ l. not (eqb l m)) (listed_in sc.found) ++ ls)) (go (before-append xs ys m) (has (listed_in sc.found) m) (sym (list_any-append (nat_eq m) (listed_in sc.found) (scope_listed xs)) ∙ h))

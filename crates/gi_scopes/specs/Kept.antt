@@ -24,3 +24,9 @@ pub record IsOpen (scopes : List Scope) (reasons : List (List ℕ)) : Type 0 whe
   pub few : length scopes ≤ 4294967295
   pub chosen : AreChosen [] scopes
   pub earlier : AreEarlier scopes reasons
+
+-- some scope has this failing set
+pub record HasFailing (scopes : List Scope) (w : List ℕ) : Type 0 where
+  pub scope : Scope
+  pub stands : Contains scopes scope
+  pub failed : scope.found ≡ failing w

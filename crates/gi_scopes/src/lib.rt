@@ -2,13 +2,18 @@
 #![tactic(auto)]
 
 mod answers;
+mod close;
+mod find;
 mod finding;
+mod implied;
 pub mod laws;
 mod level;
 mod lists;
+mod outcome;
 mod scopes;
 mod short;
 mod steps;
+mod trace;
 
 pub use answers::{Reasoned, Tested};
 pub use scopes::Scopes;

@@ -1,13 +1,18 @@
-ghost use Rattle.std.specs.Prelude.{◌≡◌, ℕ, List, ◌<◌, ◌≤◌, ◌-◌, [], ◌++◌, length, take, Contains, IsTrue, ◌↔◌, OnOk, OnErr};
+ghost use Rattle.std.specs.Prelude.{◌≡◌, ℕ, List, ◌<◌, ◌≤◌, ◌-◌, [], ◌∷◌, ◌++◌, length, take, Contains, IsTrue, ◌↔◌, IfOk, OnOk, OnErr};
 ghost use Rattle.gi_lit.specs.Problem.{Problem};
 ghost use Rattle.gi_store.specs.Held.{problem_of, IsWithin};
-ghost use Rattle.gi_model.specs.State.{scope_assumed, scope_listed};
+ghost use Rattle.gi_lit.specs.Lists.{IsSublist};
+ghost use Rattle.gi_model.specs.State.{Scope, listed, failing, scope_assumed, scope_listed};
+ghost use Rattle.gi_scopes.specs.Listing.{Finds};
 ghost use Rattle.gi_scopes.specs.Open.{Open, AreReasoned, StillFail};
 ghost use Rattle.gi_scopes.specs.Answers.{Answers, Opens, Tells};
 
 use crate::answers::{Reasoned, Tested};
-use crate::level::{Level, is_listed};
+use crate::find::find;
+use crate::finding::Finding;
+use crate::level::{Level, first_failing, is_listed, place_of};
 use crate::lists::append;
+use crate::outcome::{Implied, Outcome};
 use crate::short::Short;
 use crate::steps::Steps;
 use gi_lit::{Lit, Lits};
@@ -67,9 +72,74 @@ impl Scopes {
         ensures opens { Opens self.old assumed result self.new }
         ensures reasons { AreReasoned (problem_of store.now) self.old → AreReasoned (problem_of store.now) self.new }
     {
-        let _ = store.is_within(assumed.as_slice());
-        steps.tick();
-        Tested::NoMemory
+        match self.find(store, &assumed, steps) {
+            Ok(Outcome::Listed(listing)) => match self.open_listing(assumed, listing) {
+                Ok(lits) => Tested::Implied(lits),
+                Err(_) => Tested::NoMemory,
+            },
+            Ok(Outcome::Failing(w)) => match self.open_failing(assumed, w) {
+                Ok(lits) => Tested::Failed(lits),
+                Err(_) => Tested::NoMemory,
+            },
+            Err(_) => Tested::NoMemory,
+        }
+    }
+
+    /// What a test with these assumptions finds: the failing set of an open scope, or what unit closure gives.
+    fn find<L: Ledger>(
+        &self,
+        store: &Store,
+        assumed: &Lits,
+        steps: &mut Steps<L>,
+    ) -> Result<Outcome, AllocError>
+        requires assumed { IsWithin store.now.vars assumed.now }
+        requires open { IsWithin store.now.vars (scope_assumed self.now.scopes) }
+        requires failing { StillFail (problem_of store.now) self.now.scopes }
+        ensures { IfOk result (Finds (problem_of store.now) self.now.scopes assumed.now) }
+    {
+        match first_failing(self.levels.as_slice()) {
+            Some(w) => return Ok(Outcome::Failing(w.copy()?)),
+            None => {}
+        }
+        let mut given = Lits::new(self.alloc);
+        self.push_assumed(&mut given)?;
+        append(&mut given, assumed.as_slice())?;
+        let levels = self.levels.as_slice();
+        find(self.alloc, store, given.as_slice(), levels, steps)
+    }
+
+    /// Opens a scope whose test failed, and gives the failing set.
+    fn open_failing(&mut self, assumed: Lits, w: Lits) -> Result<Lits, AllocError>
+        requires depth { length self.old.scopes < 4294967295 }
+        requires chosen { IsSublist w (scope_assumed self.old.scopes ++ assumed) }
+        ensures told { IfOk result (λ ls. ls ≡ w) }
+        ensures scopes { OnOk result (self.new.scopes ≡ self.old.scopes ++ record { assumed = assumed; found = failing w } ∷ []) }
+        ensures reasons { OnOk result ((p : Problem) → AreReasoned p self.old → AreReasoned p self.new) }
+        ensures err { OnErr result (self.new ≡ self.old) }
+    {
+        let told = w.copy()?;
+        self.levels.reserve(1)?;
+        self.levels
+            .push_reserved(Level::new(assumed, Finding::Failing(w)));
+        Ok(told)
+    }
+
+    /// Opens a scope that lists literals with their reasons, and gives the literals.
+    fn open_listing(&mut self, assumed: Lits, listing: Implied) -> Result<Lits, AllocError>
+        requires depth { length self.old.scopes < 4294967295 }
+        requires found { (p : Problem) × Finds p self.old.scopes assumed (Outcome.Listed listing) }
+        ensures told { IfOk result (λ ls. ls ≡ listing.lits) }
+        ensures scopes { OnOk result (self.new.scopes ≡ self.old.scopes ++ record { assumed = assumed; found = listed listing.lits } ∷ []) }
+        ensures reasons { OnOk result ((p : Problem) → Finds p self.old.scopes assumed (Outcome.Listed listing) → AreReasoned p self.old → AreReasoned p self.new) }
+        ensures err { OnErr result (self.new ≡ self.old) }
+    {
+        let Implied { lits, mut reasons } = listing;
+        let told = lits.copy()?;
+        self.levels.reserve(1)?;
+        self.reasons.append(&mut reasons)?;
+        self.levels
+            .push_reserved(Level::new(assumed, Finding::Listed(lits)));
+        Ok(told)
     }
 
     /// Closes the scope that was opened last. Takes no memory.
@@ -107,11 +177,13 @@ impl Scopes {
     pub fn reasons(&self, alloc: Global, m: Lit) -> Reasoned
         ensures { Tells self.now m result }
     {
-        let _ = alloc;
-        if self.lists(m) {
-            Reasoned::NoMemory
-        } else {
-            Reasoned::NotImplied
+        let _count = self.reasons.len();
+        match place_of(self.levels.as_slice(), m) {
+            None => Reasoned::NotImplied,
+            Some(place) => match self.reasons[place].copy(alloc) {
+                Ok(reasons) => Reasoned::Reasons(reasons),
+                Err(_) => Reasoned::NoMemory,
+            },
         }
     }
 }

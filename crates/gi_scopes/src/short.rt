@@ -1,4 +1,5 @@
 ghost use Rattle.std.specs.Prelude.{◌≡◌, [], ◌∷◌, ◌++◌, OnOk, OnErr, IfOk};
+ghost use Rattle.gi_lit.specs.Problem.{has};
 
 use gi_lit::{Lit, Lits};
 use smallvec::SmallVec;
@@ -39,6 +40,14 @@ impl Short {
     {
         self.codes.push(l.code())?;
         Ok(())
+    }
+
+    /// Whether the literal stands in the list.
+    pub(crate) fn has(&self, l: Lit) -> bool
+        ensures { result ≡ has self.now l }
+    {
+        let wanted = l.code();
+        self.codes.as_slice().iter().any(|code| wanted == *code)
     }
 
     /// The literals in order.

@@ -1,5 +1,5 @@
-use Rattle.std.proofs.Common.{◌≡◌, true, sym, ap, ◌∙◌, subst, ◌↔◌}
-use Rattle.std.specs.List.{Contains, list_any}
+use Rattle.std.proofs.Common.{◌≡◌, sym, ap, ◌∙◌, subst}
+use Rattle.std.specs.List.{list_any}
 use Rattle.gi_lit.specs.Problem.{has}
 use Rattle.gi_lit.proofs.Vars.{Contains-from_has, has-from_Contains}
 use Rattle.gi_model.specs.State.{Scope, listed_in, scope_listed}

@@ -1,7 +1,6 @@
-use Rattle.std.proofs.Common.{◌≡◌, ◌++◌, take, length, sym, ap, ◌∙◌, subst, append_assoc}
-use Rattle.std.proofs.lemmas.List.{append-nil, take_all}
-use Rattle.gi_model.specs.State.{Scope, scope_assumed}
-use Rattle.gi_scopes.specs.Open.{Open}
+use Rattle.std.proofs.Common.{◌≡◌, ◌++◌, take, sym, ap, ◌∙◌, append_assoc}
+use Rattle.std.proofs.lemmas.List.{append-nil}
+use Rattle.gi_model.specs.State.{scope_assumed}
 use Rattle.gi_scopes.proofs.Listing.{scope_assumed-more}
 use Rattle.gi_scopes.proofs.scopes.Scopes.push_assumed.Goals as goal
 

@@ -1,5 +1,4 @@
-use Rattle.std.proofs.Common.{◌≡◌, ℕ, ◌+◌, ◌-◌, ◌<◌, ◌≤◌, List, length, take, get_or, sym, ap, ◌∙◌, subst, arith}
-use Rattle.gi_lit.specs.Problem.{Problem}
+use Rattle.std.proofs.Common.{◌≡◌, ℕ, ◌+◌, ◌-◌, ◌≤◌, List, length, take, get_or, sym, ap, subst, arith}
 use Rattle.gi_model.specs.State.{Scope, listed_in, scope_listed}
 use Rattle.gi_scopes.specs.Open.{Open, AreReasoned}
 use Rattle.gi_scopes.specs.Kept.{IsOpen}

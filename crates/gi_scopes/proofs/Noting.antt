@@ -1,0 +1,198 @@
+-- The reasons of one literal, marks of literals that are listed, and the list with its reasons as it grows.
+use Rattle.std.proofs.Common.{◌≡◌, ◌≢◌, ℕ, ◌+◌, ◌*◌, ◌/◌, ◌<◌, ◌≤◌, Bool, true, false, ◌||◌, nat_eq, List, [], ◌∷◌, ◌++◌, length, take, get_or, set, replicate, refl, sym, ap, ◌∙◌, subst, arith, ◌⊎◌, inl, inr, append_assoc, length-append, length-set, get_or-set_same, get_or-set_other}
+use Rattle.std.specs.List.{All, Contains}
+use Rattle.std.proofs.lemmas.Bool.{cases_lt, cases_eq, ne_eqb}
+use Rattle.std.proofs.lemmas.List.{take_more, take_at, take-append-le, get_or_append_left, get_or_push, get_or-replicate, length-replicate}
+use Rattle.std.proofs.lemmas.List.Elements.{All-nil, All-push, All-weaker, All-contains, All-contains_itself, All-more, Contains-get_or, Contains-append_left, Contains-append_right, Contains-append_cases, Contains-push, Contains-push_cases}
+use Rattle.std.proofs.lemmas.List.Folds.{list_any-append}
+use Rattle.gi_lit.specs.Literals.{opposite}
+use Rattle.gi_lit.specs.Problem.{Problem, has, IsWellFormed, IsProblemVar}
+use Rattle.gi_lit.proofs.Literals.{var-opposite}
+use Rattle.gi_lit.proofs.Agreeing.{opposite-odd}
+use Rattle.gi_lit.proofs.Distinct.{IsDistinct-push}
+use Rattle.gi_lit.proofs.Vars.{Contains-from_has, has-from_Contains, lacks_none}
+use Rattle.gi_store.specs.Held.{Held, problem_of}
+use Rattle.gi_prop.specs.Assigned.{Assigned}
+use Rattle.gi_model.specs.State.{Scope, listed_in, scope_listed}
+use Rattle.gi_scopes.specs.Open.{IsReasoned}
+use Rattle.gi_scopes.specs.Under.{AreForced, IsUnder, IsImpliedAt}
+use Rattle.gi_scopes.specs.Listing.{AreOthers, Notes, MarksToo, AreMarks, IsListing}
+use Rattle.gi_scopes.proofs.Fronts.{place_in_take, Contains-take}
+use Rattle.gi_scopes.proofs.Listing.{scope_listed-more}
+use Rattle.gi_scopes.proofs.Shadowing.{problem_or_guard, full_lit, guard_given}
+
+-- one literal is m itself, or noted already
+pub notes_none : (m l : ℕ) (rs : List ℕ) → (l ≢ m → Contains rs (opposite l)) → Notes m l rs rs
+notes_none m l rs there = record { kept = All-contains_itself rs; there = there; only = λ k d lt. inl (Contains-get_or rs k d lt); distinct = λ d. d }
+
+pub notes_one : (m l : ℕ) (rs : List ℕ) → l ≢ m → ¬ Contains rs (opposite l) → Notes m l rs (rs ++ opposite l ∷ [])
+notes_one m l rs ne free = record {
+  kept = λ k d lt. Contains-append_left rs (opposite l ∷ []) (get_or rs k d) (Contains-get_or rs k d lt);
+  there = λ _. Contains-push rs (opposite l);
+  only = All-push (λ r. Contains rs r ⊎ ((l ≢ m) × (r ≡ opposite l))) rs (opposite l) (λ k d lt. inl (Contains-get_or rs k d lt)) (inr (ne, refl));
+  distinct = λ d. IsDistinct-push rs (opposite l) free d;
+}
+
+pub others_none : (m : ℕ) → AreOthers [] m []
+others_none m = record { others = λ r. (λ c. absurd (omega (arith, c.1)), λ x. absurd (let c = x.1 in omega (arith, c.1))); distinct = tt }
+
+pub others_more : (clause : List ℕ) (m i x : ℕ) (old new : List ℕ) → i < length clause → x ≡ get_or clause i x → AreOthers (take i clause) m old → Notes m x old new → AreOthers (take (i + 1) clause) m new
+others_more clause m i x old new lt item h n = record {
+  others = λ r. (
+    λ c. elim (All-contains (λ r. Contains old r ⊎ ((x ≢ m) × (r ≡ opposite x))) new r n.only c) [
+      | inl a ↦ let y = (h.others r).0 a in (y.0, subst (λ c. Contains c y.0) (sym next) (Contains-append_left (take i clause) (x ∷ []) y.0 y.1), y.2, y.3)
+      | inr b ↦ (x, subst (λ c. Contains c x) (sym next) (Contains-push (take i clause) x), b.0, b.1)
+    ],
+    λ y. elim (Contains-push_cases (take i clause) x y.0 (subst (λ c. Contains c y.0) next y.1)) [
+      | inl a ↦ All-contains (Contains new) old r n.kept ((h.others r).1 (y.0, a, y.2, y.3))
+      | inr same ↦ subst (Contains new) (ap opposite same ∙ sym y.3) (n.there (λ e. y.2 (sym same ∙ e)))
+    ],
+  );
+  distinct = n.distinct h.distinct;
+}
+  where
+    next : take (i + 1) clause ≡ take i clause ++ x ∷ []
+    next = take_more clause i x lt ∙ ap (λ y. take i clause ++ y ∷ []) (sym item)
+
+-- the reasons of a literal that a clause forced
+pub reasoned_of : (s : Held) (t : Assigned) (at : ℕ) (h : IsImpliedAt s t at) (rs : List ℕ) → AreOthers h.clause (get_or t.lits at 0) rs → IsReasoned (problem_of s) (get_or t.lits at 0) rs
+reasoned_of s t at h rs o = record { clause = h.clause; stands = h.stands; holds = h.forces.stands; others = o.others; distinct = o.distinct }
+
+pub before_of : (s : Held) (t : Assigned) (at : ℕ) (h : IsImpliedAt s t at) (rs : List ℕ) → AreOthers h.clause (get_or t.lits at 0) rs → All (Contains (take at t.lits)) rs
+before_of s t at h rs o k d lt =
+    let y = (o.others (get_or rs k d)).0 (Contains-get_or rs k d lt) in
+    elim (All-contains (λ m. (m ≡ get_or t.lits at 0) ⊎ Contains (take at t.lits) (opposite m)) h.clause y.0 h.forces.others y.1) [
+      | inl same ↦ absurd (y.2 same)
+      | inr b ↦ subst (Contains (take at t.lits)) (sym y.3) b
+    ]
+
+or_false : (b : Bool) → (b || false) ≡ b
+or_false true = refl
+or_false false = refl
+
+or_comm : (a b : Bool) → (a || b) ≡ (b || a)
+or_comm true true = refl
+or_comm true false = refl
+or_comm false true = refl
+or_comm false false = refl
+
+has-push_other : (xs : List ℕ) (y x : ℕ) → x ≢ y → has (xs ++ y ∷ []) x ≡ has xs x
+has-push_other xs y x ne = list_any-append (nat_eq x) xs (y ∷ []) ∙ ap (λ b. has xs x || (b || false)) (ne_eqb x y ne) ∙ or_false (has xs x)
+
+pub marks_none : (old : List Bool) → MarksToo [] old old
+marks_none old = record { count = refl; each = λ x lt. refl }
+
+module _ (lits : List ℕ) (i y : ℕ) (lt : i < length lits) (item : y ≡ get_or lits i y) (old new : List Bool) (h : MarksToo (take i lits) old new) where
+  upto : take (i + 1) lits ≡ take i lits ++ y ∷ []
+  upto = take_more lits i y lt ∙ ap (λ z. take i lits ++ z ∷ []) (sym item)
+
+  other_mark : (x : ℕ) → x < length old → x ≢ y → get_or new x false ≡ (has (take (i + 1) lits) x || get_or old x false)
+  other_mark x xl ne = h.each x xl ∙ ap (λ b. b || get_or old x false) (sym (ap (λ xs. has xs x) upto ∙ has-push_other (take i lits) y x ne))
+
+  pub marks_skip : length new ≤ y → MarksToo (take (i + 1) lits) old new
+  marks_skip le = record { count = h.count; each = λ x xl. other_mark x xl (λ e. absurd (omega (arith, h.count, e, xl, le))) }
+
+  pub marks_set : y < length new → MarksToo (take (i + 1) lits) old (set new y true)
+  marks_set within = record {
+    count = length-set new y true ∙ h.count;
+    each = λ x xl. elim (cases_eq x y) [
+      | inl same ↦
+          let a : get_or (set new y true) x false ≡ true = rw same (get_or-set_same new y true false within) in
+          let b : has (take (i + 1) lits) x ≡ true = has-from_Contains (take (i + 1) lits) x (subst (λ xs. Contains xs x) (sym upto) (subst (Contains (take i lits ++ y ∷ [])) (sym same) (Contains-push (take i lits) y))) in
+          a ∙ ap (λ c. c || get_or old x false) (sym b)
+      | inr ne ↦ get_or-set_other new y x true false ne ∙ other_mark x xl ne
+    ];
+  }
+
+pub are_marks_none : (n : ℕ) (marks : List Bool) → marks ≡ replicate (2 * n + 2) false → AreMarks n [] marks
+are_marks_none n marks e = record {
+  count = ap length e ∙ length-replicate (2 * n + 2) false;
+  each = λ x lt. ap (λ ms. get_or ms x false) e ∙ get_or-replicate (2 * n + 2) x false false lt;
+}
+
+pub are_marks_more : (n : ℕ) (scs : List Scope) (i : ℕ) (sc : Scope) (old new : List Bool) → i < length scs → sc ≡ get_or scs i sc → AreMarks n (scope_listed (take i scs)) old → MarksToo (listed_in sc.found) old new → AreMarks n (scope_listed (take (i + 1) scs)) new
+are_marks_more n scs i sc old new lt item h m = record {
+  count = m.count ∙ h.count;
+  each = λ x xl.
+      let whole : has (scope_listed (take (i + 1) scs)) x ≡ (has (scope_listed (take i scs)) x || has (listed_in sc.found) x) = ap (λ ls. has ls x) (scope_listed-more scs i sc lt item) ∙ list_any-append (nat_eq x) (scope_listed (take i scs)) (listed_in sc.found) in
+      m.each x (omega (arith, h.count, xl)) ∙ ap (λ b. has (listed_in sc.found) x || b) (h.each x xl) ∙ or_comm (has (listed_in sc.found) x) (has (scope_listed (take i scs)) x) ∙ sym whole;
+}
+
+regroup : (a b c d : List ℕ) → a ++ (b ++ (c ++ d)) ≡ (a ++ (b ++ c)) ++ d
+regroup a b c d = sym (append_assoc a (b ++ c) d ∙ ap (λ t. a ++ t) (append_assoc b c d))
+
+module _ (p : Problem) (w : IsWellFormed p) (base : ℕ) (lits : List ℕ) (start : base ≤ length lits) (forced : AreForced p base lits) (apart : (i j : ℕ) → i < length lits → j < length lits → get_or lits i 0 / 2 ≡ get_or lits j 0 / 2 → i ≡ j) (earlier : List ℕ) where
+  under : IsUnder p (take base lits) base lits
+  under = record { start = start; assumed = All-contains_itself (take base lits); whole = All-contains_itself (take base lits); forced = forced }
+
+  pub listing_none : IsListing p (take base lits) earlier (take base lits) [] []
+  listing_none = record {
+    plain = All-nil (λ m. IsProblemVar p (m / 2));
+    new = All-nil (λ m. ¬ Contains (take base lits ++ earlier) m);
+    distinct = tt;
+    inside = All-nil (Contains (take base lits));
+    covers = λ k d lt pv. Contains-append_left (take base lits) (earlier ++ []) (get_or (take base lits) k d) (Contains-get_or (take base lits) k d lt);
+    listed = record { count = refl; each = λ k lt. absurd (omega arith) };
+  }
+
+  module _ (at : ℕ) (lt : at < length lits) (ls : List ℕ) (rss : List (List ℕ)) (h : IsListing p (take base lits) earlier (take at lits) ls rss) where
+    longer : take (at + 1) lits ≡ take at lits ++ get_or lits at 0 ∷ []
+    longer = take_more lits at 0 lt
+
+    inside_more : All (Contains (take (at + 1) lits)) ls
+    inside_more = All-weaker (Contains (take at lits)) (Contains (take (at + 1) lits)) (λ m c. subst (λ xs. Contains xs m) (sym longer) (Contains-append_left (take at lits) (get_or lits at 0 ∷ []) m c)) ls h.inside
+
+    pub listing_skip : (IsProblemVar p (get_or lits at 0 / 2) → has earlier (get_or lits at 0) ≡ true) → IsListing p (take base lits) earlier (take (at + 1) lits) ls rss
+    listing_skip old = record {
+      plain = h.plain;
+      new = h.new;
+      distinct = h.distinct;
+      inside = inside_more;
+      covers = All-more (λ m. IsProblemVar p (m / 2) → Contains (take base lits ++ (earlier ++ ls)) m) lits at 0 lt h.covers
+          (λ pv. Contains-append_right (take base lits) (earlier ++ ls) (get_or lits at 0) (Contains-append_left earlier ls (get_or lits at 0) (Contains-from_has earlier (get_or lits at 0) (old pv))));
+      listed = h.listed;
+    }
+
+    -- what stands before this place is another literal
+    not_before : (n : ℕ) → n ≤ at → ¬ Contains (take n lits) (get_or lits at 0)
+    not_before n le c = let q = place_in_take n lits (get_or lits at 0) c in let e : q.0 ≡ at = apart q.0 at q.2 lt (ap (λ m. m / 2) q.3) in omega (arith, e, q.1, le)
+
+    pub listing_push : base ≤ at → IsProblemVar p (get_or lits at 0 / 2) → has earlier (get_or lits at 0) ≡ false → (rs : List ℕ) → IsReasoned p (get_or lits at 0) rs → All (Contains (take at lits)) rs → IsListing p (take base lits) earlier (take (at + 1) lits) (ls ++ get_or lits at 0 ∷ []) (rss ++ rs ∷ [])
+    listing_push high pv unlisted rs r before = record {
+      plain = All-push (λ m. IsProblemVar p (m / 2)) ls (get_or lits at 0) h.plain pv;
+      new = All-push (λ m. ¬ Contains (take base lits ++ earlier) m) ls (get_or lits at 0) h.new (λ c. elim (Contains-append_cases (take base lits) earlier (get_or lits at 0) c) [
+        | inl a ↦ not_before base high a
+        | inr b ↦ lacks_none earlier (get_or lits at 0) unlisted b
+      ]);
+      distinct = IsDistinct-push ls (get_or lits at 0) (λ c. not_before at (omega arith) (All-contains (Contains (take at lits)) ls (get_or lits at 0) h.inside c)) h.distinct;
+      inside = All-push (Contains (take (at + 1) lits)) ls (get_or lits at 0) inside_more (subst (λ xs. Contains xs (get_or lits at 0)) (sym longer) (Contains-push (take at lits) (get_or lits at 0)));
+      covers = All-more (λ m. IsProblemVar p (m / 2) → Contains (take base lits ++ (earlier ++ (ls ++ get_or lits at 0 ∷ []))) m) lits at 0 lt
+          (All-weaker (λ m. IsProblemVar p (m / 2) → Contains (take base lits ++ (earlier ++ ls)) m) (λ m. IsProblemVar p (m / 2) → Contains (take base lits ++ (earlier ++ (ls ++ get_or lits at 0 ∷ []))) m) (λ m f v. rw regroup (Contains-append_left (take base lits ++ (earlier ++ ls)) (get_or lits at 0 ∷ []) m (f v))) (take at lits) h.covers)
+          (λ v. rw regroup (Contains-push (take base lits ++ (earlier ++ ls)) (get_or lits at 0)));
+      listed = record {
+        count = length-append rss (rs ∷ []) ∙ ap (λ n. n + 1) h.listed.count ∙ sym (length-append ls (get_or lits at 0 ∷ []));
+        each = λ k kl. reasons k kl (cases_lt k (length ls));
+      };
+    }
+      where
+        -- a reason is of a problem variable, so it is there, or it is a guard that is given
+        reason : (l : ℕ) → Contains r.clause l → Contains (take at lits) (opposite l) → Contains (take base lits ++ (earlier ++ ls)) (opposite l)
+        reason l c b = elim (problem_or_guard p l (full_lit p w (take base lits) base lits under r.clause l r.stands c)) [
+          | inl v ↦ All-contains (λ m. IsProblemVar p (m / 2) → Contains (take base lits ++ (earlier ++ ls)) m) (take at lits) (opposite l) h.covers b (subst (IsProblemVar p) (sym (var-opposite l)) v)
+          | inr g ↦
+              let e : opposite l ≡ 2 * g.0 = ap opposite g.2 ∙ opposite-odd g.0 in
+              Contains-append_left (take base lits) (earlier ++ ls) (opposite l) (subst (Contains (take base lits)) (sym e) (guard_given p w (take base lits) base lits under g.0 g.1 (subst (Contains lits) e (Contains-take at lits (opposite l) b))))
+        ]
+
+        own : All (Contains (take base lits ++ (earlier ++ ls))) rs
+        own k d kl =
+            let x : ℕ = get_or rs k d in
+            let o = (r.others x).0 (Contains-get_or rs k d kl) in
+            subst (Contains (take base lits ++ (earlier ++ ls))) (sym o.3) (reason o.0 o.1 (subst (Contains (take at lits)) o.3 (before k d kl)))
+
+        reasons : (k : ℕ) → k < length (ls ++ get_or lits at 0 ∷ []) → (k < length ls) ⊎ (length ls ≤ k) → IsReasoned p (get_or (ls ++ get_or lits at 0 ∷ []) k 0) (get_or (rss ++ rs ∷ []) k []) × All (Contains (take base lits ++ (earlier ++ take k (ls ++ get_or lits at 0 ∷ [])))) (get_or (rss ++ rs ∷ []) k [])
+        reasons k kl (inl below) = rw (get_or_append_left ls (get_or lits at 0 ∷ []) 0 k below, get_or_append_left rss (rs ∷ []) [] k (omega (arith, below, h.listed.count)), take-append-le k ls (get_or lits at 0 ∷ []) (omega arith)) (h.listed.each k below)
+        reasons k kl (inr high) =
+            let e : length ls ≡ k = omega (arith, length-append ls (get_or lits at 0 ∷ []), kl, high) in
+            let f : length rss ≡ k = h.listed.count ∙ e in
+            rw (get_or_push ls (get_or lits at 0) 0 k e, get_or_push rss rs [] k f, take_at ls (get_or lits at 0 ∷ []) k e) (r, own)

@@ -1,0 +1,20 @@
+use Rattle.std.proofs.Common.{arith}
+use Rattle.gi_store.specs.Held.{keys_of}
+use Rattle.gi_scopes.proofs.Attaching.{key_is, attaching_free, attaching_more, attached_all, holds_within}
+use Rattle.gi_scopes.proofs.close.attach_problem.Goals as goal
+
+pub attach-requires-clause-free : goal.attach-requires-clause-free
+attach-requires-clause-free c =
+    let k = key_is (keys_of c.args.store.now) c.loop-i.i c.in-Some.key c.in-Some.ensures in
+    attaching_free c.args.store.now c.vars-vars.ensures.keys c.args.trail.now c.loop-i.prop c.loop-i.i c.loop-i.invariant c.in-Some.key k.0 k.1
+
+pub attach-requires-clause-within : goal.attach-requires-clause-within
+attach-requires-clause-within c clause held = holds_within c.args.store.now c.vars-vars.ensures.whole c.in-Some.key clause held c.args.trail.now.vars c.requires.vars
+
+pub loop-i-preserved : goal.loop-i-preserved
+loop-i-preserved c =
+    let k = key_is (keys_of c.args.store.now) c.loop-i.i c.in-Some.key c.in-Some.ensures in
+    attaching_more c.args.store.now c.args.trail.now c.loop-i.prop c.attach.new.self c.loop-i.i c.loop-i.invariant c.in-Some.key k.0 k.1 c.in_ok-attach.ensures.attached c.attach.ensures.goes
+
+pub returns-clause-keys : goal.returns-clause-keys
+returns-clause-keys c = attached_all c.args.store.now c.vars-vars.ensures.keys c.args.trail.now c.loop-i.prop c.loop-i.i (omega (arith, c.loop-i-test.false, c.loop-i.auto.i-end, c.problem-i-end.ensures)) c.loop-i.invariant

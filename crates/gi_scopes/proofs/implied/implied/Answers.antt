@@ -1,0 +1,43 @@
+use Rattle.std.proofs.Common.{◌≡◌, ◌+◌, ◌/◌, ◌<◌, ◌≤◌, ℕ, Bool, true, false, List, ◌∷◌, [], ◌++◌, length, take, get_or, refl, sym, ap, ◌∙◌, subst, arith}
+use Rattle.std.proofs.lemmas.Bool.{false≢true}
+use Rattle.gi_lit.specs.Problem.{has, IsProblemVar}
+use Rattle.gi_store.specs.Held.{problem_of}
+use Rattle.gi_model.specs.State.{scope_listed}
+use Rattle.gi_scopes.specs.Under.{AreForced}
+use Rattle.gi_scopes.specs.Listing.{IsListing}
+use Rattle.gi_scopes.specs.declared.outcome.Implied.{Implied}
+use Rattle.gi_scopes.proofs.Attaching.{item_is, forced_of}
+use Rattle.gi_scopes.proofs.Noting.{listing_none, listing_skip, listing_push}
+use Rattle.gi_scopes.proofs.implied.implied.Goals as goal
+use Rattle.gi_scopes.proofs.implied.implied.Goals.{then-is_new+in_ok-reasons+in_ok-push, else-is_new}
+
+pub loop-at-init : goal.loop-at-init
+loop-at-init c = rw (c.new-listing.ensures.lits, c.new-listing.ensures.reasons) (listing_none (problem_of c.args.store.now) c.vars.ensures.whole.well_formed c.args.base c.args.trail.now.lits c.requires.base (forced_of c.args.store.now c.args.trail.now c.args.base c.requires.implied) c.lits-at-end.ensures.trail.apart (scope_listed c.args.levels.now))
+
+pub loop-at-preserved : goal.loop-at-preserved
+loop-at-preserved c =
+    let p = problem_of c.args.store.now in
+    let lits : List ℕ = c.args.trail.now.lits in
+    let earlier : List ℕ = scope_listed c.args.levels.now in
+    let at : ℕ = c.loop-at.at in
+    let forced : AreForced p c.args.base lits = forced_of c.args.store.now c.args.trail.now c.args.base c.requires.implied in
+    let lt : at < length lits = omega (arith, c.loop-at-test.true, ap length c.lits-at-end.ensures.value) in
+    let x : c.index-lits-at.result ≡ get_or lits at 0 = item_is c.lits.result.now lits at c.index-lits-at.result lt c.lits.ensures.value c.index-lits-at.is in
+    let v : (1 ≤ get_or lits at 0 / 2) × (get_or lits at 0 / 2 ≤ c.args.trail.now.vars) = c.lits-at-end.ensures.trail.within at 0 lt in
+    let mark : get_or c.as_slice.result.now c.index-lits-at.result false ≡ has earlier c.index-lits-at.result = ap (λ ms. get_or ms c.index-lits-at.result false) c.as_slice.ensures.value ∙ c.in_ok-marks.ensures.each c.index-lits-at.result (omega (arith, v.1, x, c.requires.vars, c.vars.ensures.value)) in
+    let P : List ℕ → List (List ℕ) → Type 0 = λ ls rss. IsListing p (take c.args.base lits) earlier (take (at + 1) lits) ls rss in
+    elim c.if-is_new.branch [
+      | then-is_new+in_ok-reasons+in_ok-push w ↦
+          let n = c.is_new.ensures.0 w.if-is_new.true in
+          let pv : IsProblemVar p (get_or lits at 0 / 2) = subst (λ y. IsProblemVar p (y / 2)) x n.0 in
+          let new : has earlier (get_or lits at 0) ≡ false = subst (λ y. has earlier y ≡ false) x (sym mark ∙ n.1) in
+          let more : P (c.loop-at.listing.lits ++ get_or lits at 0 ∷ []) (c.loop-at.listing.reasons.items ++ w.in_ok-reasons.reasons ∷ []) = listing_push p c.vars.ensures.whole.well_formed c.args.base lits c.requires.base forced c.lits-at-end.ensures.trail.apart earlier at lt c.loop-at.listing.lits c.loop-at.listing.reasons.items c.loop-at.invariant (omega arith) pv new w.in_ok-reasons.reasons w.in_ok-reasons.ensures.reasons w.in_ok-reasons.ensures.before in
+          subst (λ (i : Implied). P i.lits i.reasons.items) (sym w.listing-is) (rw (w.in_ok-push.ensures.lits, w.in_ok-push.ensures.reasons) (subst (λ y. P (c.loop-at.listing.lits ++ y ∷ []) (c.loop-at.listing.reasons.items ++ w.in_ok-reasons.reasons ∷ [])) (sym x) more))
+      | else-is_new w ↦
+          let old : IsProblemVar p (get_or lits at 0 / 2) → has earlier (get_or lits at 0) ≡ true = λ pv. not_new (has earlier (get_or lits at 0)) (λ e. false≢true (sym w.if-is_new.false ∙ c.is_new.ensures.1 (subst (λ y. IsProblemVar p (y / 2)) (sym x) pv, mark ∙ subst (λ y. has earlier y ≡ false) (sym x) e))) in
+          subst (λ (i : Implied). P i.lits i.reasons.items) (sym w.listing-is) (listing_skip p c.vars.ensures.whole.well_formed c.args.base lits c.requires.base forced c.lits-at-end.ensures.trail.apart earlier at lt c.loop-at.listing.lits c.loop-at.listing.reasons.items c.loop-at.invariant old)
+    ]
+  where
+    not_new : (b : Bool) → ¬ (b ≡ false) → b ≡ true
+    not_new true n = refl
+    not_new false n = absurd (n refl)

@@ -1,0 +1,59 @@
+-- What a test lists, and the reasons that it notes.
+use Rattle.std.specs.Prelude.{◌≡◌, ◌≢◌, ℕ, ◌+◌, ◌*◌, ◌/◌, ◌<◌, ◌⊎◌, ◌↔◌, Bool, false, ◌||◌, List, [], ◌++◌, length, take, slice_index, slice_index_or, All, Contains}
+use Rattle.gi_lit.specs.Literals.{opposite}
+use Rattle.gi_lit.specs.Lists.{IsDistinct, IsSublist}
+use Rattle.gi_lit.specs.Truth.{Fail}
+use Rattle.gi_lit.specs.Closure.{Conflicts}
+use Rattle.gi_lit.specs.Problem.{Problem, force, has, IsProblemVar}
+use Rattle.gi_model.specs.State.{Scope, scope_assumed, scope_listed}
+use Rattle.gi_model.specs.Tests.{Implies, AnswersTest}
+use Rattle.gi_model.specs.declared.replies.Reply.TheVariants as reply
+use Rattle.gi_scopes.specs.Open.{asked, IsReasoned}
+use Rattle.gi_scopes.specs.declared.outcome.Outcome.{Outcome}
+use Rattle.gi_scopes.specs.declared.outcome.Outcome.TheVariants.{Listed, Failing}
+
+-- the opposites of the clause's literals other than m, each once
+pub record AreOthers (clause : List ℕ) (m : ℕ) (rs : List ℕ) : Type 0 where
+  pub others : (r : ℕ) → Contains rs r ↔ ((l : ℕ) × Contains clause l × (l ≢ m) × (r ≡ opposite l))
+  pub distinct : IsDistinct rs
+
+-- the opposite of l is noted, once, unless l is m
+pub record Notes (m l : ℕ) (old new : List ℕ) : Type 0 where
+  pub kept : All (Contains new) old
+  pub there : l ≢ m → Contains new (opposite l)
+  pub only : All (λ r. Contains old r ⊎ ((l ≢ m) × (r ≡ opposite l))) new
+  pub distinct : IsDistinct old → IsDistinct new
+
+-- these literals' codes are marked too
+pub record MarksToo (lits : List ℕ) (old new : List Bool) : Type 0 where
+  pub count : length new ≡ length old
+  pub each : (x : ℕ) → x < length old → slice_index_or new x false ≡ (has lits x || slice_index_or old x false)
+
+-- of the literals of variables up to n, just these are marked
+pub record AreMarks (n : ℕ) (lits : List ℕ) (marks : List Bool) : Type 0 where
+  pub count : length marks ≡ 2 * n + 2
+  pub each : (x : ℕ) → x < 2 * n + 2 → slice_index_or marks x false ≡ has lits x
+
+-- beside each literal its reasons, each of them given or listed before it
+pub record AreListed (p : Problem) (given earlier ls : List ℕ) (rss : List (List ℕ)) : Type 0 where
+  pub count : length rss ≡ length ls
+  pub each : (k : ℕ) → k < length ls → IsReasoned p (slice_index ls k) (slice_index_or rss k []) × All (Contains (given ++ (earlier ++ take k ls))) (slice_index_or rss k [])
+
+-- what is listed of these literals
+pub record IsListing (p : Problem) (given earlier lits ls : List ℕ) (rss : List (List ℕ)) : Type 0 where
+  pub plain : All (λ m. IsProblemVar p (m / 2)) ls
+  pub new : All (λ m. ¬ Contains (given ++ earlier) m) ls
+  pub distinct : IsDistinct ls
+  pub inside : All (Contains lits) ls
+  pub covers : All (λ m. IsProblemVar p (m / 2) → Contains (given ++ (earlier ++ ls)) m) lits
+  pub listed : AreListed p given earlier ls rss
+
+-- what unit closure under assumptions finds, where these are listed already
+abbrev pub Closes : Problem → List ℕ → List ℕ → Outcome → Type 0
+Closes p given earlier (Listed i) = ¬ Conflicts (force p given) given × Implies p given earlier i.lits × AreListed p given earlier i.lits i.reasons.items
+Closes p given earlier (Failing w) = Conflicts (force p given) given × IsSublist w given × Fail (force p w) w
+
+-- what a test finds, with the reasons of what it lists
+abbrev pub Finds : Problem → List Scope → List ℕ → Outcome → Type 0
+Finds p scopes assumed (Listed i) = AnswersTest (asked p scopes assumed) (reply.Implied i.lits) × AreListed p (scope_assumed scopes ++ assumed) (scope_listed scopes) i.lits i.reasons.items
+Finds p scopes assumed (Failing w) = AnswersTest (asked p scopes assumed) (reply.Failed w)
