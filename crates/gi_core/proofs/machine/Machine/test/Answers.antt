@@ -1,0 +1,36 @@
+use Rattle.std.proofs.Common.{◌∙◌, ℕ, List, refl, sym, ap, subst}
+use Rattle.gi_store.specs.Held.{IsWithin}
+use Rattle.gi_model.specs.State.{scope_assumed}
+use Rattle.gi_model.specs.declared.calls.Call.TheVariants as call
+use Rattle.gi_scopes.specs.Open.{StillFail}
+use Rattle.gi_core.specs.Content.{Content}
+use Rattle.gi_core.proofs.Moving.{moves_dead, assumed_within, still_fail}
+use Rattle.gi_core.proofs.Opening.{moves_implied, moves_failed}
+use Rattle.gi_core.proofs.machine.Machine.test.Goals as goal
+
+pub tested-requires-clause-assumed : goal.tested-requires-clause-assumed
+tested-requires-clause-assumed c =
+    let m = c.args.self.now in
+    let P : Content → Type 0 = λ k. IsWithin k.problem.vars c.replace-pending.result in
+    subst P (sym c.store.ensures) (subst (λ (ls : List ℕ). IsWithin m.engine.problem.vars ls) (sym c.replace-pending.ensures.value) (assumed_within m.engine.problem m.pending c.requires.whole.kept.clauses c.requires.whole.kept.pending))
+
+pub tested-requires-clause-open : goal.tested-requires-clause-open
+tested-requires-clause-open c =
+    let m = c.args.self.now in
+    let P : Content → Type 0 = λ k. IsWithin k.problem.vars (scope_assumed m.scopes.scopes) in
+    subst P (sym c.store.ensures) (assumed_within m.engine.problem (scope_assumed m.scopes.scopes) c.requires.whole.kept.clauses c.requires.whole.kept.assumed)
+
+pub tested-requires-clause-failing : goal.tested-requires-clause-failing
+tested-requires-clause-failing c =
+    let m = c.args.self.now in
+    let P : Content → Type 0 = λ k. StillFail k.problem m.scopes.scopes in
+    subst P (sym c.store.ensures) (still_fail m.engine.problem _ _ m.scopes.scopes c.requires.whole.kept.scopes)
+
+pub returns-in-Implied : goal.returns-in-Implied
+returns-in-Implied c = moves_implied c.args.self.now c.tested.new.scopes c.forget.new.self _ c.replace-pending.result c.replace-pending.new.dest c.in-Implied.lits (ap (λ (k : Content). k.problem) c.store.ensures) c.replace-pending.ensures.value (c.replace-pending.ensures.after ∙ c.new.ensures) c.requires.free c.in-Implied.ensures.answers c.in-Implied.ensures.opens c.forget.ensures c.tested.ensures.reasons
+
+pub returns-in-Failed : goal.returns-in-Failed
+returns-in-Failed c = moves_failed c.args.self.now c.tested.new.scopes c.forget-in-Failed.new.self _ c.replace-pending.result c.replace-pending.new.dest c.in-Failed.failing (ap (λ (k : Content). k.problem) c.store.ensures) c.replace-pending.ensures.value (c.replace-pending.ensures.after ∙ c.new.ensures) c.requires.free c.in-Failed.ensures.answers c.in-Failed.ensures.opens c.forget-in-Failed.ensures c.tested.ensures.reasons
+
+pub returns-in-NoMemory : goal.returns-in-NoMemory
+returns-in-NoMemory c = moves_dead c.args.self.now c.die.new.self call.Test c.die.result refl c.requires.free refl c.die.ensures.value c.die.ensures.state c.die.ensures.reasoned

@@ -1,0 +1,15 @@
+-- What contracts see of an engine: a problem, and what is learnt about it.
+use Rattle.std.specs.Prelude.{ℕ, List, []}
+use Rattle.gi_lit.specs.Problem.{Problem, empty_problem}
+use Rattle.gi_store.specs.Held.{Held, problem_of, known_of}
+
+pub record Content : Type 0 where
+  pub problem : Problem
+  pub known : List (List ℕ)  -- the learnt clauses, the oldest first
+
+abbrev pub content_of : Held → Content
+content_of h = record { problem = problem_of h; known = known_of h }
+
+-- with nothing in it
+abbrev pub no_content : Content
+no_content = record { problem = empty_problem; known = [] }

@@ -1,0 +1,175 @@
+ghost use Rattle.std.specs.Prelude.{◌≡◌, ◌≢◌, ◌≤◌, ◌<◌, ◌/◌, ◌↔◌, [], false, drop, Contains, length, OnOk, IfOk, IsTrue};
+ghost use Rattle.gi_lit.specs.Problem.{grown, with_clause, with_pair, with_guard, next_guard, without_guard, without_var, clause_count};
+ghost use Rattle.gi_store.specs.Held.{IsWithin};
+ghost use Rattle.gi_model.specs.Effects.{trimmed};
+ghost use Rattle.gi_model.specs.Refusals.{some_unusable};
+ghost use Rattle.gi_cdcl.specs.declared.slice.Slice.TheVariants.{NoMemory};
+ghost use Rattle.gi_core.specs.Content.{no_content};
+ghost use Rattle.gi_core.specs.Slicing.{Advances, AreUsable};
+
+use crate::joining::{detach_naming, detach_oldest, put, put_under};
+use gi_cdcl::{Brake, Search, Slice, Sliced};
+use gi_lit::{Clauses, Lit, Var};
+use gi_prop::laws::edits_keep_goes;
+use gi_store::{NewGuard, Store, edits_are_of_the_problem};
+use std::alloc::{AllocError, Global};
+use std::marker::Model;
+
+/// The clauses in their store, with the search that goes with them. Contracts see the problem and the learnt clauses. Where memory was wanting
+/// it is a new one, with nothing in it.
+#[derive(Drop)]
+pub struct Engine {
+    alloc: Global,
+    pub(crate) store: Store,
+    solver: Search,
+}
+
+impl Model for Engine {
+    ghost use Rattle.gi_core.specs.Content.{Content, content_of};
+    ghost use Rattle.gi_core.specs.Joined.{IsJoined};
+
+    ghost Value = { Content };
+
+    ghost view = { λ e. content_of e.store };
+
+    ghost invariant = { λ e. IsJoined e.solver e.store };
+}
+
+impl Engine {
+    /// With nothing in it.
+    pub fn new(alloc: Global) -> Engine
+        ensures { result ≡ no_content }
+    {
+        Engine {
+            alloc,
+            store: Store::new(alloc),
+            solver: Search::new(alloc),
+        }
+    }
+
+    /// At least so many variables.
+    pub fn grow(&mut self, n: u32) -> Result<(), AllocError>
+        requires { n ≤ 1048576 }
+        ensures { OnOk result (self.new ≡ record self.old { problem = grown n self.old.problem }) }
+    {
+        edits_keep_goes();
+        self.store.grow(n)
+    }
+
+    /// A plain clause more.
+    pub fn add(&mut self, c: &[Lit]) -> Result<(), AllocError>
+        requires { some_unusable self.old.problem c.now ≡ false }
+        ensures { OnOk result (self.new ≡ record self.old { problem = with_clause c.now self.old.problem }) }
+    {
+        match put(&mut self.store, &mut self.solver, c) {
+            Ok(()) => Ok(()),
+            Err(e) => {
+                *self = Engine::new(self.alloc);
+                Err(e)
+            }
+        }
+    }
+
+    /// A clause more under an active guard.
+    pub fn add_under(&mut self, g: Var, c: &[Lit]) -> Result<(), AllocError>
+        requires guard { Contains self.old.problem.active g }
+        requires usable { some_unusable self.old.problem c.now ≡ false }
+        ensures { OnOk result (self.new ≡ record self.old { problem = with_pair g c.now self.old.problem }) }
+    {
+        match put_under(&mut self.store, &mut self.solver, g, c) {
+            Ok(()) => Ok(()),
+            Err(e) => {
+                *self = Engine::new(self.alloc);
+                Err(e)
+            }
+        }
+    }
+
+    /// Hands out a guard.
+    pub fn new_guard(&mut self) -> Result<Var, AllocError>
+        requires { self.old.problem.freed ≡ [] → self.old.problem.vars < 1048576 }
+        ensures guard { IfOk result (λ g. g ≡ next_guard self.old.problem) }
+        ensures made { OnOk result (self.new ≡ record self.old { problem = with_guard self.old.problem }) }
+    {
+        edits_keep_goes();
+        edits_are_of_the_problem();
+        match self.store.new_guard() {
+            NewGuard::Guard(g) => Ok(g),
+            NewGuard::Limit => unreachable!(),
+            NewGuard::NoMemory => Err(AllocError),
+        }
+    }
+
+    /// Drops an active guard, with its clauses and what was learnt about it. Takes no memory.
+    pub fn remove_guard(&mut self, g: Var)
+        requires guard { Contains self.old.problem.active g }
+        requires few { clause_count self.old.problem ≤ 4194304 }
+        ensures { self.new ≡ record { problem = without_guard g self.old.problem; known = without_var g self.old.known } }
+    {
+        edits_keep_goes();
+        edits_are_of_the_problem();
+        detach_naming(&self.store, &mut self.solver, g);
+        self.store.remove_guard(g);
+    }
+
+    /// With more than 20,000 learnt clauses the oldest half goes. Takes no memory.
+    pub fn trim(&mut self)
+        requires { clause_count self.old.problem ≤ 4194304 }
+        ensures { self.new ≡ record self.old { known = trimmed self.old.known } }
+    {
+        if self.store.known() > 20_000 {
+            self.forget_oldest();
+        }
+    }
+
+    /// The oldest half of the learnt clauses goes.
+    fn forget_oldest(&mut self)
+        requires { clause_count self.old.problem ≤ 4194304 }
+        ensures { self.new ≡ record self.old { known = drop (length self.old.known / 2) self.old.known } }
+    {
+        edits_keep_goes();
+        edits_are_of_the_problem();
+        detach_oldest(&self.store, &mut self.solver);
+        self.store.trim();
+    }
+    /// A slice of the search under these assumptions. More than 10^12 learnt clauses count as want of memory.
+    pub fn slice<B: Brake>(
+        &mut self,
+        assumed: &[Lit],
+        limit: u32,
+        serial: u64,
+        brake: &mut B,
+    ) -> Sliced
+        requires limit { (1 ≤ limit) × (limit ≤ 1024) }
+        requires assumed { IsWithin self.old.problem.vars assumed.now }
+        requires known { AreUsable self.old }
+        requires new_brake { (B.top brake.old ≡ 0) × (B.asks brake.old ≡ 0) }
+        ensures advances { Advances self.old self.new assumed.now limit serial result.mark result.news result.end }
+        ensures mark { result.mark ≡ B.top brake.new }
+        ensures follows { B.follows brake.old brake.new }
+        ensures asks { result.end ≢ NoMemory → length result.news < B.asks brake.new }
+    {
+        if self.store.known() > 1_000_000_000_000 {
+            return Sliced {
+                news: Clauses::new(self.alloc),
+                mark: 0,
+                end: Slice::NoMemory,
+            };
+        }
+        let sliced = self
+            .solver
+            .slice(&mut self.store, assumed, limit, serial, brake);
+        if !is_lost(&sliced.end) {
+            return sliced;
+        }
+        *self = Engine::new(self.alloc);
+        sliced
+    }
+}
+
+/// Whether memory was wanting.
+pub fn is_lost(end: &Slice) -> bool
+    ensures { IsTrue result ↔ (end.now ≡ NoMemory) }
+{
+    matches!(end, Slice::NoMemory)
+}

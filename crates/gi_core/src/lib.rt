@@ -1,0 +1,20 @@
+//! The whole machine: a store of clauses, a search over them, and scopes.
+#![tactic(auto)]
+
+mod accept;
+mod asking;
+mod edits;
+mod engine;
+mod joining;
+mod lists;
+mod looking;
+mod luby;
+mod machine;
+mod refusals;
+mod shell;
+mod solving;
+mod task;
+mod testing;
+
+pub use shell::Core;
+pub use solving::Work;

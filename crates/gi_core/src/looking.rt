@@ -1,0 +1,132 @@
+//! What is read of an engine.
+
+ghost use Rattle.std.specs.Prelude.{◌≡◌, ◌+◌, ◌==◌, ◌&&◌, ◌||◌, not, nat_le, nat_lt, length, List, ℕ, option_copied};
+ghost use Rattle.std.specs.List.{list_any};
+ghost use Rattle.gi_lit.specs.Problem.{has, is_problem_var, is_usable, is_guard_lit, lit_count};
+ghost use Rattle.gi_store.specs.Held.{at_place};
+ghost use Rattle.gi_model.specs.Limits.{most_vars, most_lits};
+ghost use Rattle.gi_model.specs.Refusals.{some_unusable, is_full};
+ghost use Rattle.gi_core.specs.Content.{content_of};
+
+use crate::engine::Engine;
+use gi_lit::{Lit, MAX_VAR, Var, top_variable};
+use gi_store::{Store, VarKind};
+
+impl Engine {
+    /// Its store.
+    pub fn store(&self) -> &Store
+        ensures { content_of result.now ≡ self.now }
+    {
+        &self.store
+    }
+
+    pub fn vars(&self) -> u32
+        ensures { result ≡ self.now.problem.vars }
+    {
+        self.store.vars()
+    }
+
+    pub fn is_problem_var(&self, v: Var) -> bool
+        ensures { result ≡ is_problem_var self.now.problem v }
+    {
+        self.store.is_problem_var(v)
+    }
+
+    pub fn is_active(&self, g: Var) -> bool
+        ensures { result ≡ has self.now.problem.active g }
+    {
+        self.store.is_active(g)
+    }
+
+    pub fn is_usable(&self, l: Lit) -> bool
+        ensures { result ≡ is_usable self.now.problem l }
+    {
+        self.is_problem_var(l.var()) || l.var().index() > self.vars()
+    }
+
+    pub fn is_guard_lit(&self, l: Lit) -> bool
+        ensures { result ≡ is_guard_lit self.now.problem l }
+    {
+        let code = l.code();
+        code == 2 * (code / 2) && self.is_active(l.var())
+    }
+
+    pub fn some_unusable(&self, lits: &[Lit]) -> bool
+        ensures { result ≡ some_unusable self.now.problem lits.now }
+    {
+        lits.iter().any(|l| !self.is_usable(*l))
+    }
+
+    pub fn some_unassumable(&self, lits: &[Lit]) -> bool
+        ensures { result ≡ list_any (λ l. not (is_usable self.now.problem l || is_guard_lit self.now.problem l)) lits.now }
+    {
+        lits.iter()
+            .any(|l| !(self.is_usable(*l) || self.is_guard_lit(*l)))
+    }
+
+    /// Whether one clause more, with these literals, would be too much.
+    pub fn is_full(&self, clause: &[Lit]) -> bool
+        ensures { result ≡ is_full self.now.problem clause.now }
+    {
+        top_variable(clause) > MAX_VAR
+            || self.store.problem() >= 4_194_304
+            || self.lacks_lits(clause.len())
+    }
+
+    /// Whether so many literals more would be too many.
+    fn lacks_lits(&self, count: usize) -> bool
+        ensures { result ≡ nat_lt most_lits (lit_count self.now.problem + count) }
+    {
+        match self.store.lits().checked_add(count as u64) {
+            None => true,
+            Some(lits) => lits > 67_108_864,
+        }
+    }
+
+    /// Whether no guard is left to hand out.
+    pub fn lacks_guard(&self) -> bool
+        ensures { result ≡ ((length self.now.problem.freed == 0) && nat_le most_vars self.now.problem.vars) }
+    {
+        if self.vars() < MAX_VAR {
+            return false;
+        }
+        !self.has_freed()
+    }
+
+    /// Whether some guard was freed. In time linear in the greatest variable: it is asked only once no variable is left.
+    fn has_freed(&self) -> bool
+        ensures { result ≡ not (length self.now.problem.freed == 0) }
+    {
+        let _vars = self.store.vars();
+        for index in 1..1_048_577 {
+            if let Some(v) = Var::new(index)
+                && self.is_freed(v)
+            {
+                return true;
+            }
+        }
+        false
+    }
+
+    /// Whether the variable is a freed guard.
+    fn is_freed(&self, v: Var) -> bool
+        ensures { result ≡ has self.now.problem.freed v }
+    {
+        let _vars = self.store.vars();
+        matches!(self.store.kind(v), VarKind::Freed)
+    }
+
+    /// How many learnt clauses there are.
+    pub fn known(&self) -> u64
+        ensures { result ≡ length self.now.known }
+    {
+        self.store.known()
+    }
+
+    /// The learnt clause at a place, from 1, the oldest first. None exactly where none stands there.
+    pub fn known_at(&self, i: u64) -> Option<&[Lit]>
+        ensures { option_copied result ≡ at_place self.now.known i }
+    {
+        self.store.known_at(i)
+    }
+}
