@@ -5,3 +5,5 @@ pub mod Moving
 pub mod Opening
 pub mod Slices
 pub mod Models
+pub mod Folding
+pub mod Running

@@ -5,3 +5,5 @@ pub mod Task
 pub mod View
 pub mod Ending
 pub mod Lacking
+pub mod Luby
+pub mod Laws

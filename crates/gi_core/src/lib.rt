@@ -6,6 +6,7 @@ mod asking;
 mod edits;
 mod engine;
 mod joining;
+pub mod laws;
 mod lists;
 mod looking;
 mod luby;

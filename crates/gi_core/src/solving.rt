@@ -1,11 +1,12 @@
 //! The start of a solve, and the work on it.
 
-ghost use Rattle.std.specs.Prelude.{◌≡◌, ◌≢◌, ◌+◌, ◌<◌, ◌≤◌, ◌↔◌, None, IfOk, length, is_some, IsTrue};
+ghost use Rattle.std.specs.Prelude.{◌≡◌, ◌≢◌, ◌+◌, ◌<◌, ◌≤◌, ◌↔◌, ℕ, ◌*◌, min, None, IfOk, length, is_some, IsTrue};
 ghost use Rattle.gi_model.specs.State.{all_assumed, live_run};
 ghost use Rattle.gi_model.specs.History.{MayCome};
 ghost use Rattle.gi_model.specs.Refusals.{refuses};
 ghost use Rattle.gi_model.specs.declared.calls.Call.TheVariants as call;
 ghost use Rattle.gi_core.specs.Ending.{verdict_of, Settles, IsNews};
+ghost use Rattle.gi_core.specs.Luby.{IsLuby};
 ghost use Rattle.gi_core.specs.View.{state_of, IsWhole, Moves};
 
 use crate::engine::is_lost;
@@ -33,8 +34,10 @@ fn most_news(slices: u32, left: u32) -> u32
     ensures low { 1 ≤ result }
     ensures high { result ≤ 1024 }
     ensures within { result ≤ left }
+    ensures pace { (n : ℕ) × IsLuby (slices + 1) n × (result ≡ min (min (32 * n) 1024) left) }
 {
-    let wanted = (luby(slices).min(32) as u32) * 32;
+    let pace = luby(slices);
+    let wanted = if pace > 32 { 1024 } else { 32 * pace as u32 };
     wanted.min(left)
 }
 

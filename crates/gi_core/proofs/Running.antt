@@ -1,0 +1,54 @@
+-- The steps of a machine are a legal history.
+use Rattle.std.proofs.Common.{◌≡◌, ℕ, ◌^◌, ◌≤◌, List, [], ◌∷◌, ◌++◌, refl, sym, ap, ◌∙◌, subst}
+use Rattle.std.specs.List.{All}
+use Rattle.gi_model.specs.State.{State, Run, Solve, opening}
+use Rattle.gi_model.specs.Effects.{after}
+use Rattle.gi_model.specs.History.{Entry, Step, Allows, IsLegal, IsLegalFrom, after_all}
+use Rattle.gi_model.specs.Kept.{IsKept}
+use Rattle.gi_model.specs.Told.{told_known, told_spent, HasSpent}
+use Rattle.gi_model.specs.Laws.{KnownIsTold, SpentIsTold, GuardsAreClean, IsClean}
+use Rattle.gi_model.specs.Bound.{SolvesAreShort, IsQuiet, IsUnderWay}
+use Rattle.gi_model.specs.declared.calls.Call.TheVariants.{NewGuard, Solve as Start}
+use Rattle.gi_model.specs.declared.replies.Reply.TheVariants as reply
+use Rattle.gi_model.proofs.Histories.{histories_kept}
+use Rattle.gi_core.specs.Laws.{Runs, IsAfter, IsSound, IsTold, StepsAreLegal, StepsKeep, StepsTell, StepsGiveCleanGuards, SolvesStayShort}
+
+runs_from : (es : List Entry) (s t : State) → Runs s es t → IsLegalFrom s es × (t ≡ after_all s es)
+unfolding after_all
+runs_from [] s t r = (tt, r)
+runs_from (e ∷ es) s t r =
+    let rest = runs_from es r.0 t r.2 in
+    let P : State → Type 0 = λ m. IsLegalFrom m es × (t ≡ after_all m es) in
+    let q : P (after s e.call e.reply) = subst P r.1.new_is rest in
+    ((r.1.allowed, q.0), q.1)
+
+pub runs_after : StepsAreLegal
+runs_after es s r = let q = runs_from es opening s r in record { legal = record { each = q.0 }; state = q.1 }
+
+pub runs_sound : StepsKeep
+runs_sound es s r =
+    let a = runs_after es s r in
+    let k = subst IsKept (sym a.state) (histories_kept es a.legal) in
+    record { kept = k; implied = k.known_implied }
+
+pub runs_told : KnownIsTold → SpentIsTold → StepsTell
+runs_told known spent es s r =
+    let a = runs_after es s r in
+    record { known = ap (λ (x : State). x.known) a.state ∙ known es a.legal; spent = subst (λ (x : State). HasSpent x.solve (told_spent 0 es)) (sym a.state) (spent es a.legal) }
+
+pub runs_clean : GuardsAreClean → StepsGiveCleanGuards
+runs_clean law es s t g r step =
+    let a = runs_after es s r in
+    let P : State → Type 0 = λ x. Allows x NewGuard (reply.Guard g) in
+    subst (λ (x : State). IsClean x g) (sym (step.new_is ∙ ap (λ (x : State). after x NewGuard (reply.Guard g)) a.state)) (law es g a.legal (subst P a.state step.allowed))
+
+runs_append : (es more : List Entry) (s m t : State) → Runs s es m → Runs m more t → Runs s (es ++ more) t
+runs_append [] more s m t r q = subst (λ (x : State). Runs x more t) r q
+runs_append (e ∷ es) more s m t r q = (r.0, r.1, runs_append es more r.0 m t r.2 q)
+
+pub runs_short : SolvesAreShort → SolvesStayShort
+runs_short law es more s t by budget q r w quiet under =
+    let a = runs_after es s r in
+    let all = es ++ record { by = by; call = Start budget; reply = reply.Started q.serial } ∷ more in
+    let b = runs_after all t (runs_append es (record { by = by; call = Start budget; reply = reply.Started q.serial } ∷ more) opening s t r w) in
+    subst (λ (x : State). q.spent ≤ 3 ^ x.problem.vars) (sym a.state) (law es more by budget q b.legal quiet (subst (λ (x : State). IsUnderWay x.solve q) b.state under))

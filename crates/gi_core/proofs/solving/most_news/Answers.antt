@@ -1,0 +1,12 @@
+use Rattle.std.proofs.Common.{◌≡◌, ◌+◌, ◌*◌, ◌≤◌, min, arith}
+use Rattle.gi_core.proofs.Folding.{luby_low}
+use Rattle.gi_core.proofs.solving.most_news.Goals as goal
+use Rattle.gi_core.proofs.solving.most_news.Goals.{then-pace-gt32, else-pace-gt32}
+
+pub returns-clause-low : goal.returns-clause-low
+returns-clause-low c =
+    let low = luby_low (c.args.slices + 1) c.luby-pace.result c.luby-pace.ensures in
+    elim c.if-pace-gt32.branch [
+      | then-pace-gt32 w ↦ (let e = w.wanted-is in omega (arith, c.min.ensures))
+      | else-pace-gt32 w ↦ (let e = w.wanted-is in omega (arith, c.min.ensures))
+    ]
