@@ -122,12 +122,10 @@ pub(crate) fn assignment(alloc: Global, trail: &Trail, n: u32) -> Result<Assign,
     Ok(Assign::from_vec(values))
 }
 
-/// Keeps the values that go when the levels above this one are taken away.
-pub(crate) fn save_phases(phases: &mut [bool], trail: &Trail, level: u32)
-    requires { level < length trail.now.marks }
-{
+/// Keeps the values of the variables whose literals stand from a place on.
+pub(crate) fn save_phases(phases: &mut [bool], trail: &Trail, start: usize) {
     let lits = trail.lits();
-    for place in trail.start_of(level)..lits.len() {
+    for place in start..lits.len() {
         let l = lits[place];
         let at = (l.var().index() - 1) as usize;
         if at < phases.len() {

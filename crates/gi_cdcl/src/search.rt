@@ -6,6 +6,7 @@ ghost use Rattle.gi_cdcl.specs.Ends.{Slices};
 ghost use Rattle.gi_cdcl.specs.declared.slice.Slice.TheVariants.{NoMemory};
 
 use crate::brake::Brake;
+use crate::decide::save_phases;
 use crate::engine::{Bounds, Engine, Progress};
 use crate::run::start;
 use crate::slice::Sliced;
@@ -110,6 +111,7 @@ impl Search {
             brake,
             &mut progress,
         );
+        save_phases(&mut self.engine.phases, &self.engine.trail, 0);
         self.engine.trail.clear();
         Sliced {
             news: Clauses::from_vec(progress.news),

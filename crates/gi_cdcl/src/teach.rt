@@ -66,7 +66,8 @@ fn learn(
     let _vars = store.vars();
     let _level = engine.trail.level();
     let learnt = analyze(engine.alloc, store, &engine.trail, conflict)?;
-    save_phases(&mut engine.phases, &engine.trail, learnt.level);
+    let start = engine.trail.start_of(learnt.level);
+    save_phases(&mut engine.phases, &engine.trail, start);
     engine.trail.cancel_to(learnt.level);
     engine.vars_passed = 0;
     engine.assumed_passed = 0;
