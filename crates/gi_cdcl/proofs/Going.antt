@@ -6,7 +6,7 @@ use Rattle.std.proofs.lemmas.List.Elements.{All-push, All-map, All-weaker, Conta
 use Rattle.gi_lit.specs.Literals.{opposite}
 use Rattle.gi_lit.specs.Closure.{IsFalsified, IsSettled, IsClosed, Conflicts}
 use Rattle.gi_lit.specs.Problem.{Problem, IsWellFormed}
-use Rattle.gi_lit.specs.Learnt.{IsImplied, IsFresh, IsDerived}
+use Rattle.gi_lit.specs.Learnt.{IsImplied, IsFresh, IsDerived, AreFresh}
 use Rattle.gi_store.specs.Held.{Entry, Held, Holds, IsLive, IsWithin, Keeps, entries, keys_of, problem_of, known_of, with_learnt}
 use Rattle.gi_prop.specs.Assigned.{Assigned, IsTrail, no_lits, with_lit, with_level, cut_at}
 use Rattle.gi_prop.specs.Attached.{Attached, IsAttached, Goes, Attaches, HasSameKeys, AddsForced, AreSettled}
@@ -16,6 +16,7 @@ use Rattle.gi_cdcl.specs.Uip.{IsUip, IsJump}
 use Rattle.gi_cdcl.specs.Assumed.{IsLed}
 use Rattle.gi_cdcl.specs.Ends.{EndsNonempty, IsTaught, AreTaught}
 use Rattle.gi_cdcl.specs.Searching.{AreKnown}
+use Rattle.gi_cdcl.specs.Laws.{LearntClausesStayKnown}
 use Rattle.gi_cdcl.specs.Going.{AreAttached, IsTied, IsReady, HasPassed, IsGoing, HasLearnt}
 use Rattle.gi_cdcl.proofs.Uip.{holds_stored, holds_live, uip_one_high}
 use Rattle.gi_cdcl.proofs.Trails.{Grows, entries_learnt, IsSound-learnt, IsSound-grows, IsSound-decide, IsSound-cut, IsLeveled-grows, IsLeveled-decide, IsLeveled-jump}
@@ -232,3 +233,16 @@ going_start p h t assumed w known a e room within =
       within = within;
       passed = passed_none h t assumed w;
     }
+
+news_known : (h : Held) (known news : List (List ℕ)) → AreFresh (problem_of h) known news → All (IsImplied (problem_of h)) known → All (All (IsUsed h)) known → All (IsImplied (problem_of h)) (known ++ news) × All (All (IsUsed h)) (known ++ news)
+news_known h known [] f i u = (subst (All (IsImplied (problem_of h))) (sym (append-nil known)) i, subst (All (All (IsUsed h))) (sym (append-nil known)) u)
+news_known h known (c ∷ cs) f i u =
+    let r = news_known h (known ++ c ∷ []) cs f.2 (All-push (IsImplied (problem_of h)) known c i f.0.implied) (All-push (All (IsUsed h)) known c u f.0.within) in
+    (subst (All (IsImplied (problem_of h))) (append_assoc known (c ∷ []) cs) r.0, subst (All (All (IsUsed h))) (append_assoc known (c ∷ []) cs) r.1)
+
+pub stay_known : LearntClausesStayKnown
+stay_known old new news l f k =
+    let now : Held = record old { learnt = old.learnt ++ l.entries } in
+    let is : known_of now ≡ known_of old ++ news = map-append (λ (e : Entry). e.lits) old.learnt l.entries ∙ ap (λ (xs : List (List ℕ)). known_of old ++ xs) (sym l.are) in
+    let r = news_known old (known_of old) news f k.implied k.used in
+    subst AreKnown (sym l.new_is) (record { implied = subst (All (IsImplied (problem_of old))) (sym is) r.0; used = subst (All (All (IsUsed old))) (sym is) r.1 })

@@ -7,6 +7,8 @@ use Rattle.gi_store.specs.Held.{Held, Holds, problem_of, known_of}
 use Rattle.gi_prop.specs.Assigned.{Assigned, IsTrail}
 use Rattle.gi_cdcl.specs.Sound.{stored, IsUsed}
 use Rattle.gi_cdcl.specs.Uip.{IsUip}
+use Rattle.gi_cdcl.specs.Ends.{Learns}
+use Rattle.gi_cdcl.specs.Searching.{AreKnown}
 
 -- clauses none of which holds an earlier one are few
 abbrev pub NewsAreFew : Type 0
@@ -17,3 +19,7 @@ abbrev pub LearntClausesAreFresh : Type 0
 LearntClausesAreFresh = (h : Held) (t : Assigned) (key : ℕ) (conflict : List ℕ) (start : ℕ) (clause : List ℕ) → All (IsImplied (problem_of h)) (known_of h) → All (All (IsUsed h)) (stored h) → IsTrail t
     → IsClosed (stored h) (take start t.lits) → Holds h key conflict → IsFalsified t.lits conflict → IsUip h t conflict start clause
     → IsFresh (problem_of h) (known_of h) clause × IsDerived (problem_of h) (known_of h) clause
+
+-- the news of a slice may stand in the store when the next slice begins
+abbrev pub LearntClausesStayKnown : Type 0
+LearntClausesStayKnown = (old new : Held) (news : List (List ℕ)) → Learns old new news → AreFresh (problem_of old) (known_of old) news → AreKnown old → AreKnown new

@@ -1,6 +1,6 @@
 //! Laws over what contracts see, each the contract of a function that does nothing.
 
-ghost use Rattle.gi_cdcl.specs.Laws.{NewsAreFew, LearntClausesAreFresh};
+ghost use Rattle.gi_cdcl.specs.Laws.{NewsAreFew, LearntClausesAreFresh, LearntClausesStayKnown};
 
 /// Over n variables there are at most 3^n news, in however many slices they come, where nothing but news was added between.
 pub fn news_are_few()
@@ -10,4 +10,9 @@ pub fn news_are_few()
 /// The first unique implication point of a conflict, on a trail of which the part before the last level is closed, is fresh and derived.
 pub fn learnt_clauses_are_fresh()
     ensures { LearntClausesAreFresh }
+{}
+
+/// What a slice leaves in the store is again implied by the problem, and of problem variables and active guards alone.
+pub fn learnt_clauses_stay_known()
+    ensures { LearntClausesStayKnown }
 {}
