@@ -1,12 +1,12 @@
 -- Looking for an empty clause.
-use Rattle.std.proofs.Common.{◌≡◌, ◌≢◌, ℕ, ◌+◌, ◌-◌, ◌<◌, false, nat_eq, Some, List, [], length, map, get_or, sym, ap, ◌∙◌, subst, arith, length-append}
+use Rattle.std.proofs.Common.{◌≡◌, ◌≢◌, ℕ, ◌+◌, ◌-◌, ◌<◌, false, nat_eq, Some, List, [], ◌++◌, length, map, get_or, sym, ap, ◌∙◌, subst, arith, length-append}
 use Rattle.std.specs.List.{All, Contains, slice_get}
 use Rattle.std.proofs.lemmas.Bool.{eqb-false, ne_eqb}
 use Rattle.std.proofs.lemmas.List.{length-map, get_or-map, get_or_append_left}
 use Rattle.std.proofs.lemmas.List.Elements.{All-append, All-from_get_or, Contains-get_or, Contains-append_right}
 use Rattle.std.proofs.lemmas.Option.{slice_get_within, get_or_from_slice_get}
 use Rattle.gi_lit.specs.Problem.{Pair, full, guarded}
-use Rattle.gi_store.specs.Held.{Entry, PairEntry, Held, Holds, entries, keys_of, problem_of, known_of, at_place}
+use Rattle.gi_store.specs.Held.{Entry, PairEntry, Held, Holds, entries, full_entry, keys_of, problem_of, known_of, at_place}
 use Rattle.gi_cdcl.specs.Sound.{stored}
 use Rattle.gi_cdcl.proofs.Teaching.{stored_is}
 
@@ -51,3 +51,11 @@ none_empty h problem known =
 
 pub known_empty : (h : Held) → Contains (known_of h) [] → Contains (stored h) []
 known_empty h k = subst (λ (cs : List (List ℕ)). Contains cs []) (sym (stored_is h)) (Contains-append_right (full (problem_of h)) (known_of h) [] k)
+
+pub keys_length : (h : Held) → length (keys_of h) ≡ length h.plain + length h.pairs + length (known_of h)
+keys_length h =
+    let a : length (keys_of h) ≡ length (entries h) = length-map (entries h) (λ (e : Entry). e.key) in
+    let b : length (known_of h) ≡ length h.learnt = length-map h.learnt (λ (e : Entry). e.lits) in
+    let d : length (map full_entry h.pairs) ≡ length h.pairs = length-map h.pairs full_entry in
+    let e : length (map full_entry h.pairs ++ h.learnt) ≡ length (map full_entry h.pairs) + length h.learnt = length-append (map full_entry h.pairs) h.learnt in
+    a ∙ length-append h.plain (map full_entry h.pairs ++ h.learnt) ∙ omega (arith, b, d, e)

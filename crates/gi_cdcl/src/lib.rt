@@ -13,6 +13,8 @@ mod search;
 mod slice;
 mod step;
 mod teach;
+#[cfg(test)]
+mod tests;
 
 pub use brake::Brake;
 pub use search::Search;
