@@ -1,23 +1,27 @@
 -- What steps of a search keep.
-use Rattle.std.proofs.Common.{◌≡◌, ℕ, ◌+◌, ◌-◌, ◌<◌, ◌≤◌, None, List, [], ◌∷◌, ◌++◌, length, take, map, get_or, refl, sym, ap, ◌∙◌, subst, arith, ◌⊎◌, inl, inr, length-append, append_assoc}
+use Rattle.std.proofs.Common.{◌≡◌, ℕ, ◌+◌, ◌-◌, ◌/◌, ◌<◌, ◌≤◌, None, List, [], ◌∷◌, ◌++◌, length, take, map, get_or, refl, sym, ap, ◌∙◌, subst, arith, ◌⊎◌, inl, inr, length-append, append_assoc}
 use Rattle.std.specs.List.{All, Contains}
-use Rattle.std.proofs.lemmas.List.{map-append, append-nil, get_or_push}
+use Rattle.std.proofs.lemmas.Bool.{cases_lt}
+use Rattle.std.proofs.lemmas.List.{map-append, append-nil, get_or_push, get_or_default}
 use Rattle.std.proofs.lemmas.List.Elements.{All-push, All-map, All-weaker, Contains-get_or, Contains-append_left, Contains-push, Contains-push_cases}
 use Rattle.gi_lit.specs.Literals.{opposite}
 use Rattle.gi_lit.specs.Closure.{IsFalsified, IsSettled, IsClosed, Conflicts}
 use Rattle.gi_lit.specs.Problem.{Problem, IsWellFormed}
 use Rattle.gi_lit.specs.Learnt.{IsImplied, IsFresh, IsDerived, AreFresh}
+use Rattle.gi_lit.proofs.Literals.{var-opposite}
 use Rattle.gi_store.specs.Held.{Entry, Held, Holds, IsLive, IsWithin, Keeps, entries, keys_of, problem_of, known_of, with_learnt}
 use Rattle.gi_prop.specs.Assigned.{Assigned, IsTrail, no_lits, with_lit, with_level, cut_at}
 use Rattle.gi_prop.specs.Attached.{Attached, IsAttached, Goes, Attaches, HasSameKeys, AddsForced, AreSettled}
 use Rattle.gi_prop.proofs.Adding.{goes_edit}
 use Rattle.gi_cdcl.specs.Sound.{stored, IsUsed, IsSupported, IsSound}
 use Rattle.gi_cdcl.specs.Uip.{IsUip, IsJump}
+use Rattle.gi_cdcl.specs.Values.{IsPassed}
 use Rattle.gi_cdcl.specs.Assumed.{IsLed}
 use Rattle.gi_cdcl.specs.Ends.{EndsNonempty, IsTaught, AreTaught}
 use Rattle.gi_cdcl.specs.Searching.{AreKnown}
 use Rattle.gi_cdcl.specs.Laws.{LearntClausesStayKnown}
 use Rattle.gi_cdcl.specs.Going.{AreAttached, IsTied, IsReady, HasPassed, IsGoing, HasLearnt}
+use Rattle.gi_cdcl.proofs.Lists.{front_contains}
 use Rattle.gi_cdcl.proofs.Uip.{holds_stored, holds_live, uip_one_high}
 use Rattle.gi_cdcl.proofs.Trails.{Grows, entries_learnt, IsSound-learnt, IsSound-grows, IsSound-decide, IsSound-cut, IsLeveled-grows, IsLeveled-decide, IsLeveled-jump}
 use Rattle.gi_cdcl.proofs.Fresh.{uip_fresh, empty_fresh, root_conflict, AreFresh-push}
@@ -162,6 +166,20 @@ passed_none h t assumed w = record {
   lits_are = λ k d lt. absurd (omega arith);
 }
 
+-- the variables before the least one that lost its value keep theirs
+passed_cut : (h : Held) → IsWellFormed (problem_of h) → (t : Assigned) (cut v0 vars least : ℕ) → IsPassed h t.lits v0 → vars ≤ v0 → vars ≤ least - 1 → ((k : ℕ) → cut ≤ k → k < length t.lits → least ≤ get_or t.lits k 0 / 2) → (l : ℕ) → IsUsed h l → l / 2 ≤ vars → Contains (take cut t.lits) l ⊎ Contains (take cut t.lits) (opposite l)
+passed_cut h w t cut v0 vars least p below low lost l u le =
+    elim (p.each l u (omega (arith, le, below))) [ inl k ↦ inl (front l refl k) | inr k ↦ inr (front (opposite l) (var-opposite l) k) ]
+  where
+    front : (m : ℕ) → m / 2 ≡ l / 2 → Contains t.lits m → Contains (take cut t.lits) m
+    front m same k =
+        let lt : k.0 < length t.lits = k.1 in
+        let is : get_or t.lits k.0 0 ≡ m = get_or_default t.lits k.0 0 m lt ∙ k.2 in
+        elim (cases_lt k.0 cut) [
+          | inl before ↦ subst (Contains (take cut t.lits)) is (front_contains cut t.lits k.0 before lt)
+          | inr ge ↦ absurd (let a = lost k.0 ge lt in let b : get_or t.lits k.0 0 / 2 ≡ l / 2 = ap (λ n. n / 2) is ∙ same in let r = used_within h w l u in omega (arith, a, b, r.0, le, low))
+        ]
+
 -- a conflict above level 0
 module _ (h : Held) (w : IsWellFormed (problem_of h)) (f : AreKnown h) (t : Assigned) (tr : IsTrail t) (r : IsReady h t) (deep : 0 < length t.marks) (key : ℕ) (conflict : List ℕ) (held : Holds h key conflict) (false' : IsFalsified t.lits conflict) (learnt : List ℕ) (u : IsUip h t conflict (get_or t.marks (length t.marks - 1) 0) learnt) where
   front_closed : IsClosed (stored h) (take (get_or t.marks (length t.marks - 1) 0) t.lits)
@@ -180,9 +198,10 @@ module _ (h : Held) (w : IsWellFormed (problem_of h)) (f : AreKnown h) (t : Assi
   learnt_nonempty = let o = uip_one_high h t conflict _ false' learnt u in let s = o.stands in omega (arith, s.1)
 
   -- and the jump back
-  pub going_jump : (p q : Attached) (new : Held) (b : Assigned) (at level : ℕ) (assumed : List ℕ) → IsJump t learnt (get_or t.marks (length t.marks - 1) 0) level → new ≡ with_learnt at learnt h → b ≡ cut_at level t → IsTied q new b → IsLed assumed t → IsWithin h.vars assumed → IsGoing q new b assumed 0 0
-  going_jump p q new b at level assumed j e eb tied led within =
-      subst (λ (x : Held). IsGoing q x b assumed 0 0) (sym e) (subst (λ (y : Assigned). IsGoing q (with_learnt at learnt h) y assumed 0 0) (sym eb) (record {
+  pub going_jump : (p q : Attached) (new : Held) (b : Assigned) (at level v0 vars least : ℕ) (assumed : List ℕ) → IsJump t learnt (get_or t.marks (length t.marks - 1) 0) level → new ≡ with_learnt at learnt h → b ≡ cut_at level t → IsTied q new b → IsLed assumed t → IsWithin h.vars assumed
+      → IsPassed h t.lits v0 → vars ≤ v0 → vars ≤ least - 1 → ((k : ℕ) → get_or t.marks level 0 ≤ k → k < length t.lits → least ≤ get_or t.lits k 0 / 2) → IsGoing q new b assumed vars 0
+  going_jump p q new b at level v0 vars least assumed j e eb tied led within before below' gone' lost =
+      subst (λ (x : Held). IsGoing q x b assumed vars 0) (sym e) (subst (λ (y : Assigned). IsGoing q (with_learnt at learnt h) y assumed vars 0) (sym eb) (record {
         known = AreKnown-learnt at learnt h f learnt_fresh.0;
         tied = subst (IsTied q (with_learnt at learnt h)) eb (subst (λ (x : Held). IsTied q x b) e tied);
         ready = record {
@@ -191,7 +210,7 @@ module _ (h : Held) (w : IsWellFormed (problem_of h)) (f : AreKnown h) (t : Assi
         };
         led = IsLed-cut assumed t led level j.below;
         within = within;
-        passed = passed_none (with_learnt at learnt h) (cut_at level t) assumed w;
+        passed = record { vars_are = record { each = λ l u le. passed_cut h w t (get_or t.marks level 0) v0 vars least before below' gone' lost l u le }; lits_are = λ k d lt. absurd (omega arith) };
       }))
 
 -- a conflict where nothing was decided

@@ -1,4 +1,4 @@
-ghost use Rattle.std.specs.Prelude.{◌≡◌, ℕ, ◌+◌, ◌*◌, ◌/◌, ◌<◌, ◌≤◌, ◌⊎◌, length, Contains, IfOk, IfSome, IfNone, OnOk, None};
+ghost use Rattle.std.specs.Prelude.{◌≡◌, ℕ, ◌+◌, ◌*◌, ◌/◌, ◌<◌, ◌≤◌, ◌⊎◌, length, Contains, IfOk, IfSome, IfNone, OnOk, None, slice_index};
 ghost use Rattle.gi_lit.specs.Literals.{opposite};
 ghost use Rattle.gi_store.specs.Held.{Held};
 ghost use Rattle.gi_prop.specs.Assigned.{HasValue, IsTrail, with_lit, with_level};
@@ -122,14 +122,20 @@ pub(crate) fn assignment(alloc: Global, trail: &Trail, n: u32) -> Result<Assign,
     Ok(Assign::from_vec(values))
 }
 
-/// Keeps the values of the variables whose literals stand from a place on.
-pub(crate) fn save_phases(phases: &mut [bool], trail: &Trail, start: usize) {
+/// Keeps the values of the variables whose literals stand from a place on, and gives a number that none of these variables is below.
+pub(crate) fn save_phases(phases: &mut [bool], trail: &Trail, start: usize) -> u32
+    ensures { (k : ℕ) → start ≤ k → k < length trail.now.lits → result ≤ slice_index trail.now.lits k / 2 }
+{
+    let mut least = u32::MAX;
     let lits = trail.lits();
     for place in start..lits.len() {
         let l = lits[place];
-        let at = (l.var().index() - 1) as usize;
+        let v = l.var().index();
+        let at = (v - 1) as usize;
         if at < phases.len() {
             phases[at] = !l.is_negative();
         }
+        least = least.min(v);
     }
+    least
 }

@@ -1,7 +1,8 @@
-ghost use Rattle.std.specs.Prelude.{◌≡◌, ◌+◌, ◌<◌, ◌≤◌, ℕ, List, [], ◌∷◌, ◌++◌, length, IfOk, OnOk};
+ghost use Rattle.std.specs.Prelude.{◌≡◌, ◌+◌, ◌-◌, ◌<◌, ◌≤◌, ℕ, List, [], ◌∷◌, ◌++◌, length, IfOk, OnOk};
 ghost use Rattle.gi_lit.specs.Learnt.{IsFresh, IsDerived};
 ghost use Rattle.gi_store.specs.Held.{Held, IsWithin, problem_of, known_of};
 ghost use Rattle.gi_cdcl.specs.Marks.{HasFalse};
+ghost use Rattle.gi_cdcl.specs.Values.{IsPassed};
 ghost use Rattle.gi_cdcl.specs.Assumed.{IsLed};
 ghost use Rattle.gi_cdcl.specs.Ends.{IsTaught, IsFailing};
 ghost use Rattle.gi_cdcl.specs.Searching.{AreKnown};
@@ -45,6 +46,13 @@ fn add_clause(
     prop.attach(store, trail, key)
 }
 
+/// How many of the variables that were passed lie before the least one that lost its value.
+fn still_passed(passed: u32, least: u32) -> u32
+    ensures { (result ≤ passed) × (result ≤ least - 1) }
+{
+    passed.min(least.saturating_sub(1))
+}
+
 /// Learns what a conflict above level 0 teaches, and goes back to the least level at which all its literals but one are false.
 fn learn(
     engine: &mut Engine,
@@ -60,16 +68,16 @@ fn learn(
     ensures learnt { (s : Held) → HasLearnt s store.old news.old.items → HasLearnt s store.new news.new.items }
     ensures few { length news.new.items ≤ length news.old.items + 1 }
     ensures adds { OnOk result (AddsNews news.old.items news.new.items Learnt) }
-    ensures going { OnOk result ((assumed : List ℕ) → IsLed assumed engine.old.trail → IsWithin store.old.vars assumed → IsGoing engine.new.prop store.new engine.new.trail assumed engine.new.vars_passed engine.new.assumed_passed) }
+    ensures going { OnOk result ((assumed : List ℕ) → IsLed assumed engine.old.trail → IsWithin store.old.vars assumed → IsPassed store.old engine.old.trail.lits engine.old.vars_passed → IsGoing engine.new.prop store.new engine.new.trail assumed engine.new.vars_passed engine.new.assumed_passed) }
     ensures vars { OnOk result (engine.new.trail.vars ≡ engine.old.trail.vars) }
 {
     let _vars = store.vars();
     let _level = engine.trail.level();
     let learnt = analyze(engine.alloc, store, &engine.trail, conflict)?;
     let start = engine.trail.start_of(learnt.level);
-    save_phases(&mut engine.phases, &engine.trail, start);
+    let least = save_phases(&mut engine.phases, &engine.trail, start);
     engine.trail.cancel_to(learnt.level);
-    engine.vars_passed = 0;
+    engine.vars_passed = still_passed(engine.vars_passed, least);
     engine.assumed_passed = 0;
     add_clause(&mut engine.prop, &engine.trail, store, learnt.clause, news)?;
     Ok(())
@@ -116,7 +124,7 @@ pub(crate) fn face(
     ensures learnt { (s : Held) → HasLearnt s store.old news.old.items → HasLearnt s store.new news.new.items }
     ensures few { length news.new.items ≤ length news.old.items + 1 }
     ensures adds { IfOk result (AddsNews news.old.items news.new.items) }
-    ensures leads { IfOk result (λ step. (assumed : List ℕ) → IsLed assumed engine.old.trail → IsWithin store.old.vars assumed → LeadsTo engine.old.trail engine.new.prop store.new engine.new.trail assumed engine.new.vars_passed engine.new.assumed_passed step) }
+    ensures leads { IfOk result (λ step. (assumed : List ℕ) → IsLed assumed engine.old.trail → IsWithin store.old.vars assumed → IsPassed store.old engine.old.trail.lits engine.old.vars_passed → LeadsTo engine.old.trail engine.new.prop store.new engine.new.trail assumed engine.new.vars_passed engine.new.assumed_passed step) }
 {
     if engine.trail.level() == 0 {
         return refute(engine, store, news, conflict);

@@ -24,7 +24,7 @@ returns-in-Some-clause-leads c =
     let e = c.args.engine.now in
     let n = c.face.new.engine in
     let g = going_grows e.prop c.propagate.new.self c.args.store.now e.trail c.propagate.new.trail c.args.assumed.now e.vars_passed e.assumed_passed c.level-level.ensures.trail c.requires c.propagate.ensures.keys c.propagate.ensures.goes c.propagate.ensures.adds in
-    IfOk-weaker c.face.result _ _ (λ s leads. leads_on c.propagate.new.self c.args.store.now e.trail c.propagate.new.trail c.propagate.ensures.adds n.prop c.face.new.store n.trail c.args.assumed.now n.vars_passed n.assumed_passed s (leads c.args.assumed.now g.led g.within)) c.face.ensures.leads
+    IfOk-weaker c.face.result _ _ (λ s leads. leads_on c.propagate.new.self c.args.store.now e.trail c.propagate.new.trail c.propagate.ensures.adds n.prop c.face.new.store n.trail c.args.assumed.now n.vars_passed n.assumed_passed s (leads c.args.assumed.now g.led g.within g.passed.vars_are)) c.face.ensures.leads
 
 pub returns-in-None-clause-leads : goal.returns-in-None-clause-leads
 returns-in-None-clause-leads c =
