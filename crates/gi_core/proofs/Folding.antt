@@ -18,20 +18,22 @@ double k = rw add-one (pow-suc 2 k)
 pub fold : (first left size e rest : ℕ) → IsFolded first left size e → rest ≡ cond (nat_lt size left) (left - size) left → IsFolded first rest size e × (rest ≤ size)
 fold first left size e rest f r = elim (cases_Bool (nat_lt size left)) [
   | inl t ↦
-    let lt = ltb-true size left t in
-    let is : rest ≡ left - size = r ∙ ap (λ (b : Bool). cond b (left - size) left) t in
-    let h = f.high in let l = f.low in let p = f.power in let d = double e in
-    let same : left + 1 - 2 ^ e ≡ rest = omega arith in
-    (record {
-      low = omega arith;
-      power = p;
-      high = omega arith;
-      goes = λ n q. f.goes n (again e left n (omega arith) (omega arith) (subst (λ (x : ℕ). IsLuby x n) (sym same) q));
-    }, omega arith)
+      let lt = ltb-true size left t in
+      let is : rest ≡ left - size = r ∙ ap (λ (b : Bool). cond b (left - size) left) t in
+      let h = f.high in let l = f.low in let p = f.power in let d = double e in
+      let same : left + 1 - 2 ^ e ≡ rest = omega arith in (
+        record {
+          low = omega arith;
+          power = p;
+          high = omega arith;
+          goes = λ n q. f.goes n (again e left n (omega arith) (omega arith) (subst (λ (x : ℕ). IsLuby x n) (sym same) q));
+        },
+        omega arith,
+      )
   | inr t ↦
-    let le = ltb-false size left t in
-    let is : rest ≡ left = r ∙ ap (λ (b : Bool). cond b (left - size) left) t in
-    (subst (λ (x : ℕ). IsFolded first x size e) (sym is) f, omega arith)
+      let le = ltb-false size left t in
+      let is : rest ≡ left = r ∙ ap (λ (b : Bool). cond b (left - size) left) t in
+      (subst (λ (x : ℕ). IsFolded first x size e) (sym is) f, omega arith)
 ]
 
 -- at the end of a part

@@ -16,6 +16,8 @@ mod shell;
 mod solving;
 mod task;
 mod testing;
+#[cfg(test)]
+mod tests;
 
 pub use shell::Core;
 pub use solving::Work;

@@ -2,6 +2,7 @@ ghost use Rattle.std.specs.Prelude.{◌≡◌, true};
 ghost use Rattle.gi_model.specs.State.{opening, phase_of};
 ghost use Rattle.gi_model.specs.Fits.{fits};
 ghost use Rattle.gi_model.specs.History.{MayCome, Step};
+ghost use Rattle.gi_model.specs.Kept.{IsKept};
 ghost use Rattle.gi_core.specs.Ending.{IsNews};
 
 use crate::machine::Machine;
@@ -43,6 +44,14 @@ impl Core {
         ensures { result ≡ phase_of self.now }
     {
         self.machine.phase()
+    }
+
+    /// That the state keeps the invariant of all legal histories: what was learnt is implied by the problem, what scopes list are consequences, no
+    /// limit is passed, and the rest of its record.
+    pub fn is_kept(&self)
+        ensures { IsKept self.now }
+    {
+        let _ = &self.machine;
     }
 
     /// Answers a call that fits; a wait only where no solve is running. The answer is the refusal that the table names, which changes nothing, or
