@@ -1,2 +1,9 @@
 pub mod Replying
+pub mod Keeping
 pub mod Passing
+pub mod Starving
+pub mod Having
+pub mod Over
+pub mod Asking
+pub mod Lost
+pub mod Hosting

@@ -1,5 +1,5 @@
 -- How a pass's history grows.
-use Rattle.std.proofs.Common.{◌-◌, ◌<◌, get_or, ◌≡◌, ℕ, ◌+◌, refl, sym, ◌∙◌, ap, List, [], ◌∷◌, ◌++◌, length, length-append, append_assoc, append-nil, add-zero, arith, inl, inr, Option, Some}
+use Rattle.std.proofs.Common.{◌-◌, ◌<◌, get_or, ◌≡◌, ℕ, ◌+◌, refl, sym, ◌∙◌, ap, List, [], ◌∷◌, ◌++◌, length, length-append, append_assoc, append-nil, add-zero, arith, inl, inr, Some, option_map}
 use Rattle.std.proofs.lemmas.List.Elements.{filter-append}
 use Rattle.std.proofs.lemmas.Option.{slice_get-get_or}
 use Rattle.std.proofs.Math.Seq.{get_or-append_seam}
@@ -8,32 +8,43 @@ use Rattle.gi_model.specs.History.{Entry}
 use Rattle.gi_model.specs.declared.calls.Call.{Call}
 use Rattle.gi_model.specs.declared.calls.Call.TheVariants as call
 use Rattle.gi_model.specs.declared.replies.Reply.{Reply}
-use Rattle.gi_net.specs.Calls.{Enters, BreaksOff, ComesBefore, IsReplyTo}
-use Rattle.gi_net.specs.Entries.{all_own_of}
+use Rattle.gi_net.specs.Calls.{BreaksOff, ComesBefore, Enters}
+use Rattle.gi_net.specs.Entries.{all_own_of, own_of}
 use Rattle.gi_net.specs.Standing.{Standing}
-use Rattle.gi_tool.specs.Passing.{HasWorked, WorkedFor}
+use Rattle.gi_tool.specs.Passing.{HasCalled, HasNoted, HasWorked, WorkedFor}
+use Rattle.gi_tool.specs.Seen.{Seen, last_reply, standing}
 
 -- no work yet
 pub worked_none : (s : Standing) → HasWorked s s
 worked_none s = record { works = []; no_call = refl; number = refl; history = sym (append-nil s.history); left = sym (add-zero s.left) }
 
--- one slice of work more
-pub worked_more : (old mid new : Standing) (mark : ℕ) (answer : Reply) → HasWorked old mid → new.number ≡ mid.number
-    → new.history ≡ mid.history ++ record { by = 0; call = call.Work mark; reply = answer } ∷ [] → mid.left ≡ new.left + 1 → HasWorked old new
-worked_more old mid new mark answer was number history left =
-    let e : List Entry = record { by = 0; call = call.Work mark; reply = answer } ∷ [] in
-    let all : all_own_of 0 (was.works ++ e) ≡ all_own_of 0 was.works ++ e = filter-append _ was.works e in
-    let count : length (all_own_of 0 (was.works ++ e)) ≡ length (all_own_of 0 was.works) + 1 = ap length all ∙ length-append (all_own_of 0 was.works) e in
+-- one slice of work
+pub worked_once : (old new : Seen) (mark : ℕ) (answer : Reply) → HasNoted (call.Work mark) answer old new → HasWorked (standing old) (standing new)
+worked_once old new mark answer h = record {
+  works = record { by = 0; call = call.Work mark; reply = answer } ∷ [];
+  no_call = refl;
+  number = refl;
+  history = h.history;
+  left = h.left;
+}
+
+-- work after work
+pub worked_on : (old mid new : Standing) → HasWorked old mid → HasWorked mid new → HasWorked old new
+worked_on old mid new was is =
+    let own : own_of 0 (was.works ++ is.works) ≡ own_of 0 was.works ++ own_of 0 is.works = filter-append _ was.works is.works in
+    let all : all_own_of 0 (was.works ++ is.works) ≡ all_own_of 0 was.works ++ all_own_of 0 is.works = filter-append _ was.works is.works in
+    let count : length (all_own_of 0 (was.works ++ is.works)) ≡ length (all_own_of 0 was.works) + length (all_own_of 0 is.works) = ap length all ∙ length-append (all_own_of 0 was.works) (all_own_of 0 is.works) in
     record {
-      works = was.works ++ e;
-      no_call = filter-append _ was.works e ∙ ap (λ xs. xs ++ []) was.no_call;
-      number = number ∙ was.number;
-      history = history ∙ ap (λ xs. xs ++ e) was.history ∙ append_assoc old.history was.works e;
-      left = omega (arith, count, was.left, left);
+      works = was.works ++ is.works;
+      no_call = own ∙ ap (λ xs. xs ++ own_of 0 is.works) was.no_call ∙ is.no_call;
+      number = is.number ∙ was.number;
+      history = is.history ∙ ap (λ xs. xs ++ is.works) was.history ∙ append_assoc old.history was.works is.works;
+      left = omega (arith, count, was.left, is.left);
     }
 
 -- the work that comes before a call
-pub comes_before : (what : Call) (old new : Standing) → old.number ≡ 0 → WorkedFor what old new → (before : List Entry) × ComesBefore old.number what before × (new.history ≡ old.history ++ before) × (old.left ≡ new.left + length (all_own_of old.number before))
+comes_before : (what : Call) (old new : Standing) → old.number ≡ 0 → WorkedFor what old new
+    → (before : List Entry) × ComesBefore old.number what before × (new.history ≡ old.history ++ before) × (old.left ≡ new.left + length (all_own_of old.number before))
 comes_before what old new zero was = elim was.waits [
   | inl same ↦ ([], record { no_call = refl; waits = inl refl }, ap (λ (s : Standing). s.history) same ∙ sym (append-nil old.history), ap (λ (s : Standing). s.left) (sym same) ∙ sym (add-zero new.left))
   | inr wait ↦ rw zero (was.works.works, record { no_call = was.works.no_call; waits = inr wait }, was.works.history, was.works.left)
@@ -49,24 +60,24 @@ breaks_off what old new zero was = let w = comes_before what old new zero was in
   left = w.3;
 }
 
--- a call and its entry
-pub entered : (what : Call) (answer : Reply) (last : Option Reply) (old mid new : Standing) → old.number ≡ 0 → WorkedFor what old mid → IsReplyTo what answer → last ≡ Some answer
-    → new.number ≡ mid.number → new.history ≡ mid.history ++ record { by = 0; call = what; reply = answer } ∷ [] → mid.left ≡ new.left + 1 → Enters what last old new
-entered what answer last old mid new zero was may_be answer_is number history left = let w = comes_before what old mid zero was in record {
-  reply = answer;
-  answer_is = answer_is;
-  may_be = may_be;
-  before = w.0;
-  comes_before = w.1;
-  number = number ∙ was.works.number;
-  history = history ∙ ap (λ xs. xs ++ record { by = 0; call = what; reply = answer } ∷ []) w.2 ∙ append_assoc old.history w.0 _ ∙ ap (λ n. old.history ++ (w.0 ++ record { by = n; call = what; reply = answer } ∷ [])) (sym zero);
-  left = omega (arith, w.3, left);
-}
-
 -- the last of a list to which one was added
-pub last_is : {X : Type 0} (xs all : List X) (x : X) → all ≡ xs ++ x ∷ [] → slice_get all (length all - 1) ≡ Some x
+last_is : {X : Type 0} (xs all : List X) (x : X) → all ≡ xs ++ x ∷ [] → slice_get all (length all - 1) ≡ Some x
 last_is xs all x e =
     let count : length all ≡ length xs + 1 = ap length e ∙ length-append xs (x ∷ []) in
     let place : length all - 1 ≡ length xs = omega (arith, count) in
     let within : length all - 1 < length all = omega (arith, count) in
     slice_get-get_or all (length all - 1) x within ∙ ap (λ n. Some (get_or all n x)) place ∙ ap (λ ys. Some (get_or ys (length xs) x)) e ∙ ap Some (get_or-append_seam xs x [] x)
+
+-- a call and its entry
+pub entered : (what : Call) (old mid new : Seen) → WorkedFor what (standing old) (standing mid) → HasCalled what mid new
+    → Enters what (last_reply new.history) (standing old) (standing new)
+entered what old mid new was called = let w = comes_before what (standing old) (standing mid) refl was in record {
+  reply = called.answer;
+  answer_is = ap (option_map (λ (e : Entry). e.reply)) (last_is mid.history new.history _ called.noted.history);
+  may_be = called.may_be;
+  before = w.0;
+  comes_before = w.1;
+  number = refl;
+  history = called.noted.history ∙ ap (λ xs. xs ++ record { by = 0; call = what; reply = called.answer } ∷ []) w.2 ∙ append_assoc old.history w.0 _;
+  left = omega (arith, w.3, called.noted.left);
+}

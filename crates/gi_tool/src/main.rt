@@ -1,13 +1,14 @@
 //! The program: an incremental SAT solver that serves a session over standard input and output.
 #![tactic(auto)]
 
+mod brake;
 mod entry;
-mod machine;
 mod pass;
 mod room;
 mod run;
 #[cfg(test)]
 mod tests;
+mod visit;
 
 use gi_outside::StdLink;
 use room::Room;

@@ -1,9 +1,13 @@
+use Rattle.std.proofs.Common.{◌≤◌}
 use Rattle.gi_tool.proofs.pass.Pass.work_off.Given as goal
 use Rattle.gi_tool.specs.Passing.{HasWorked}
-use Rattle.gi_tool.specs.Standing.{pass_standing}
+use Rattle.gi_tool.specs.Seen.{standing}
 
 abbrev pub invariant-work : goal.invariant-work
-invariant-work l = HasWorked (pass_standing l.fn.self) (pass_standing l.self)
+invariant-work l = record {
+  works : HasWorked (standing l.fn.self) (standing l.self);
+  room : 1 ≤ l.self.room;
+}
 
 abbrev pub decreases-work : goal.decreases-work
 decreases-work l = l.self.left
