@@ -60,6 +60,14 @@ impl Chains {
         Ok(())
     }
 
+    /// How many lists there are.
+    pub fn lists(&self) -> usize
+        ensures { result ≡ length self.now.lists }
+    {
+        let _ = &self.nodes;
+        self.ends.len()
+    }
+
     /// The first node of a list; None exactly where the list is empty.
     pub fn first(&self, list: u32) -> Option<u64>
         requires { list < length self.now.lists }
