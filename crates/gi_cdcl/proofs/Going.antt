@@ -12,7 +12,7 @@ use Rattle.gi_lit.proofs.Literals.{var-opposite}
 use Rattle.gi_store.specs.Held.{Entry, Held, Holds, IsLive, IsWithin, Keeps, entries, keys_of, problem_of, known_of, with_learnt}
 use Rattle.gi_prop.specs.Assigned.{Assigned, IsTrail, no_lits, with_lit, with_level, cut_at}
 use Rattle.gi_prop.specs.Attached.{Attached, IsAttached, Goes, Attaches, HasSameKeys, AddsForced, AreSettled}
-use Rattle.gi_prop.proofs.Adding.{goes_edit}
+use Rattle.gi_prop.proofs.Keys.{goes_edit}
 use Rattle.gi_cdcl.specs.Sound.{stored, IsUsed, IsSupported, IsSound}
 use Rattle.gi_cdcl.specs.Uip.{IsUip, IsJump}
 use Rattle.gi_cdcl.specs.Values.{IsPassed}

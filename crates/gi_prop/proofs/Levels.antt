@@ -1,4 +1,4 @@
-use Rattle.std.proofs.Common.{◌≡◌, ℕ, ◌<◌, ◌≤◌, List, [], ◌∷◌, ◌++◌, length, take, get_or, refl, sym, ◌∙◌, arith, inl, inr, length-append}
+use Rattle.std.proofs.Common.{◌≡◌, ℕ, ◌+◌, ◌<◌, ◌≤◌, List, [], ◌∷◌, ◌++◌, length, take, get_or, refl, sym, ◌∙◌, arith, inl, inr, length-append}
 use Rattle.std.proofs.lemmas.Bool.{cases_lt}
 use Rattle.std.proofs.lemmas.List.{get_or-take, get_or_append_left, get_or_push, length-take, length-take-le}
 use Rattle.gi_prop.specs.Assigned.{IsLevelAt, AreLevels}
@@ -66,16 +66,16 @@ module _ (lits marks : List ℕ) (head : ℕ) (heads : List ℕ) (h : AreLevels 
     high = omega (arith, h.high, length-append lits (l ∷ []));
   }
 
-  -- all is looked at
-  pub AreLevels-look : AreLevels lits marks (length lits) heads
-  AreLevels-look = record {
+  -- one literal more is looked at
+  pub AreLevels-next : head < length lits → AreLevels lits marks (head + 1) heads
+  AreLevels-next lt = record {
     aligned = h.aligned;
     limit = h.limit;
     within = h.within;
     ordered = h.ordered;
     seen = h.seen;
     rising = h.rising;
-    looked = λ j jl. omega (arith, h.seen j jl, h.within j jl);
+    looked = λ j jl. omega (arith, h.looked j jl);
     high = omega arith;
   }
 

@@ -75,3 +75,8 @@ pub record IsTrail (t : Assigned) : Type 0 where
   pub consistent : IsConsistent t.lits
   pub reasons : length t.reasons ≡ length t.lits
   pub levels : AreLevels t.lits t.marks t.head t.heads
+
+-- the literal at the head
+pub record IsUnseen (t : Assigned) (l : ℕ) : Type 0 where
+  pub below : t.head < length t.lits
+  pub is : slice_index t.lits t.head ≡ l

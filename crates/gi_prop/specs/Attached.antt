@@ -1,11 +1,17 @@
--- What contracts see of a propagator: which keys are attached, with which stores and trails it goes, and what propagation does.
-use Rattle.std.specs.Prelude.{◌≡◌, ◌≢◌, ℕ, ◌<◌, ◌≤◌, ◌⊎◌, Option, Some, None, List, ◌++◌, length, take, slice_index, slice_index_or}
+-- What contracts see of a propagator: which keys are attached, what their clauses watch, with which stores and trails it goes, and what
+-- propagation does.
+use Rattle.std.specs.Prelude.{◌≡◌, ◌≢◌, ℕ, ◌+◌, ◌<◌, ◌≤◌, ◌⊎◌, Option, Some, None, List, [], ◌++◌, length, take, slice_index, slice_index_or, Contains}
+use Rattle.gi_lit.specs.Literals.{opposite, IsLiteral}
 use Rattle.gi_lit.specs.Closure.{Forces, IsSettled, IsFalsified}
 use Rattle.gi_store.specs.Held.{Held, Holds, IsWithin}
+use Rattle.gi_chains.specs.Lists.{Lists}
 use Rattle.gi_prop.specs.Assigned.{Assigned}
+use Rattle.gi_prop.specs.Watched.{IsIn, IsPair, IsKeyed}
 
 pub record Attached : Type 0 where
   pub slots : List (Option ℕ)  -- each attached key, at the place of its number
+  pub first : Lists  -- one node of each attached key, in the list of what its clause watches
+  pub second : Lists  -- and the other
 
 -- the key is attached
 unfoldable pub IsAttached : Attached → ℕ → Type 0
@@ -17,9 +23,54 @@ pub record HasClause (s : Held) (n key : ℕ) : Type 0 where
   pub held : Holds s key clause
   pub within : IsWithin n clause
 
--- the propagator goes with the store and the trail: each attached key has a clause, of variables of the trail
+-- the propagator goes with the store and the trail: each attached key has a clause, of variables of the trail, and the clause is watched
 unfoldable pub Goes : Attached → Held → Assigned → Type 0
-Goes p s t = (key : ℕ) → IsAttached p key → HasClause s t.vars key
+Goes p s t = (key : ℕ) → IsAttached p key → IsKeyed p.first p.second s t t.head t.head key
+
+-- the clause of the key watches these two literals
+pub record Watches (p : Attached) (key a b : ℕ) : Type 0 where
+  pub first : IsIn p.first (a + 1) key
+  pub second : IsIn p.second (b + 1) key
+  pub first_literal : IsLiteral a
+  pub second_literal : IsLiteral b
+
+-- it watches two literals
+pub record HasWatches (p : Attached) (key : ℕ) : Type 0 where
+  pub a : ℕ
+  pub b : ℕ
+  pub watches : Watches p key a b
+
+-- the key watches what it did
+pub record KeepsWatches (old new : Attached) (key : ℕ) : Type 0 where
+  pub kept : (a b : ℕ) → Watches old key a b → Watches new key a b
+  pub others : (a b : ℕ) → Watches new key a b → Watches old key a b
+
+-- two different literals of the clause aren't false
+pub record HasTwoLeft (lits clause : List ℕ) : Type 0 where
+  pub a : ℕ
+  pub b : ℕ
+  pub pair : IsPair clause a b
+  pub a_left : ¬ Contains lits (opposite a)
+  pub b_left : ¬ Contains lits (opposite b)
+
+-- the two are different literals of the key's clause
+pub record AreOfClause (s : Held) (key a b : ℕ) : Type 0 where
+  pub clause : List ℕ
+  pub held : Holds s key clause
+  pub pair : IsPair clause a b
+
+-- each attached clause with two different literals that aren't false has two watches, and a clause with a false watch has a true literal
+pub record AreWatched (p : Attached) (s : Held) (lits : List ℕ) : Type 0 where
+  pub two : (key : ℕ) (clause : List ℕ) → IsAttached p key → Holds s key clause → HasTwoLeft lits clause → HasWatches p key
+  pub true : (key a b : ℕ) (clause : List ℕ) → IsAttached p key → Holds s key clause → Watches p key a b → Contains lits (opposite a) ⊎ Contains lits (opposite b) → (l : ℕ) × Contains clause l × Contains lits l
+
+-- no list and no node
+abbrev pub no_lists : Lists
+no_lists = record { lists = []; nodes = 0 }
+
+-- keys alone, with no watches
+abbrev pub keys_alone : List (Option ℕ) → Attached
+keys_alone slots = record { slots = slots; first = no_lists; second = no_lists }
 
 -- the same keys are attached
 pub record HasSameKeys (old new : Attached) : Type 0 where

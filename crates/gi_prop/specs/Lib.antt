@@ -1,5 +1,7 @@
 pub mod Assigned
 pub mod Laid
+pub mod Watched
 pub mod Attached
-pub mod Scan
+pub mod Watching
+pub mod Steps
 pub mod Laws

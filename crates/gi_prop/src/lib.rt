@@ -1,13 +1,16 @@
 //! The trail of literals that are true, and unit propagation over attached clauses.
 #![tactic(auto)]
 
+mod follow;
 pub mod laws;
+mod look;
 mod places;
 mod prop;
-mod scan;
+mod room;
 #[cfg(test)]
 mod tests;
 mod trail;
+mod waits;
 
 pub use prop::Prop;
 pub use trail::Trail;

@@ -1,30 +1,40 @@
-ghost use Rattle.std.specs.Prelude.{◌≡◌, ℕ, List, length, IfSome, IfNone, OnOk, OnErr};
+ghost use Rattle.std.specs.Prelude.{◌≡◌, ◌≢◌, ℕ, List, length, ◌↔◌, IfSome, IfNone, OnOk, OnErr, MatchOption};
 ghost use Rattle.gi_store.specs.Held.{Held, Holds, IsLive, IsWithin};
 ghost use Rattle.gi_prop.specs.Assigned.{Assigned};
-ghost use Rattle.gi_prop.specs.Attached.{Attached, IsAttached, Goes, HasSameKeys, Attaches, Detaches, AddsForced, AreSettled, IsConflict};
+ghost use Rattle.gi_prop.specs.Attached.{Attached, IsAttached, Goes, HasSameKeys, Attaches, Detaches, AddsForced, AreSettled, IsConflict, Watches, HasWatches, KeepsWatches, HasTwoLeft, AreOfClause, AreWatched};
 
-use crate::scan::{add_slots, propagate};
+use crate::follow::follow;
+use crate::look::{home_of, watch_in};
+use crate::room::make_room;
 use crate::trail::Trail;
+use crate::waits::pass_all;
+use gi_chains::Chains;
+use gi_lit::{Lit, top_variable};
 use gi_store::{Key, Store};
 use std::alloc::{AllocError, Global};
 use std::marker::Model;
 
-/// A propagator: the keys of the clauses that take part in unit propagation. Contracts see which keys are attached, and with which stores and
-/// trails it goes.
+/// A propagator: the keys of the clauses that take part in unit propagation, with two watched literals for each clause. Contracts see which keys
+/// are attached, what their clauses watch, and with which stores and trails it goes.
+///
+/// Each attached clause of two or more different literals watches two of them, or waits until two of them aren't false. A literal that becomes
+/// false has the clauses looked at that watch it, and those alone.
 #[derive(Drop)]
 pub struct Prop {
     slots: Vec<Option<Key>>,
+    first: Chains,
+    second: Chains,
 }
 
 impl Model for Prop {
     ghost use Rattle.gi_prop.specs.Attached.{Attached};
-    ghost use Rattle.gi_prop.specs.Scan.{AreNumbered};
+    ghost use Rattle.gi_prop.specs.Watching.{AreKept};
 
     ghost Value = { Attached };
 
-    ghost view = { λ p. record { slots = p.slots.items } };
+    ghost view = { λ p. record { slots = p.slots.items; first = p.first; second = p.second } };
 
-    ghost invariant = { λ p. AreNumbered p.slots.items };
+    ghost invariant = { λ p. AreKept p.slots.items p.first p.second };
 }
 
 impl Prop {
@@ -35,6 +45,8 @@ impl Prop {
     {
         Prop {
             slots: Vec::new(alloc),
+            first: Chains::new(alloc),
+            second: Chains::new(alloc),
         }
     }
 
@@ -48,13 +60,24 @@ impl Prop {
         ensures goes { Goes self.new store.now trail.now }
         ensures err { OnErr result (HasSameKeys self.old self.new) }
         ensures err_goes { OnErr result ((s : Held) (t : Assigned) → Goes self.old s t → Goes self.new s t) }
+        ensures watched { OnOk result ((clause : List ℕ) → Holds store.now key clause → HasWatches self.new key ↔ HasTwoLeft trail.now.lits clause) }
+        ensures others { (k : ℕ) → k ≢ key → KeepsWatches self.old self.new k }
+        ensures err_watched { OnErr result (KeepsWatches self.old self.new key) }
     {
-        let at = key.number() as usize;
-        let most = at.checked_add(1).ok_or(AllocError)?;
-        let more = most.saturating_sub(self.slots.len());
-        self.slots.reserve(more)?;
-        add_slots(&mut self.slots, more);
-        self.slots[at] = Some(key);
+        let node = key.number();
+        let clause = store.clause(key);
+        let lists = 2 * top_variable(clause) + 3;
+        make_room(
+            &mut self.slots,
+            &mut self.first,
+            &mut self.second,
+            node,
+            lists,
+        )?;
+        let home = home_of(clause, trail);
+        self.slots[node as usize] = Some(key);
+        self.first.push_front(home.0, node);
+        self.second.push_front(home.1, node);
         Ok(())
     }
 
@@ -63,8 +86,12 @@ impl Prop {
         requires { IsAttached self.old key }
         ensures detached { Detaches key self.old self.new }
         ensures goes { (s : Held) (t : Assigned) → Goes self.old s t → Goes self.new s t }
+        ensures others { (k : ℕ) → k ≢ key → KeepsWatches self.old self.new k }
     {
-        self.slots[key.number() as usize] = None;
+        let node = key.number();
+        self.slots[node as usize] = None;
+        self.first.unlink(node);
+        self.second.unlink(node);
     }
 
     /// Adds to the trail what the attached clauses force, until each of them is settled (None), or all literals of one are false (its key). A literal
@@ -77,7 +104,33 @@ impl Prop {
         ensures closed { IfNone result (AreSettled self.new store.now trail.new.lits) }
         ensures looked { IfNone result (trail.new.head ≡ length trail.new.lits) }
         ensures conflict { IfSome result (IsConflict self.new store.now trail.new.lits) }
+        ensures watched { IfNone result (AreWatched self.new store.now trail.new.lits) }
+        ensures stays { (k : ℕ) → IsAttached self.old k → HasWatches self.old k → HasWatches self.new k }
     {
-        propagate(self.slots.as_slice(), store, trail)
+        // A trail and a store say what is true of each: how far a trail was looked at, and that no key has two clauses.
+        let _ = trail.level();
+        let _ = store.vars();
+        let slots = self.slots.as_slice();
+        if let Some(key) = pass_all(&mut self.first, &mut self.second, slots, store, trail) {
+            return Some(key);
+        }
+        follow(&mut self.first, &mut self.second, slots, store, trail)
+    }
+
+    /// The two literals that the clause of the key watches, different ones of it. None exactly where it watches none: after an `attach` exactly where
+    /// fewer than two different literals of it weren't false; after a `propagate` without a key only where fewer than two aren't. In constant time.
+    pub fn watches(&self, key: Key) -> Option<(Lit, Lit)>
+        requires { IsAttached self.now key }
+        ensures value { MatchOption result (¬ HasWatches self.now key) (λ w. Watches self.now key w.0 w.1) }
+        ensures literals { (s : Held) (t : Assigned) → Goes self.now s t → IfSome result (λ w. AreOfClause s key w.0 w.1) }
+    {
+        let node = key.number();
+        match watch_in(&self.first, node) {
+            None => None,
+            Some(first) => match watch_in(&self.second, node) {
+                None => None,
+                Some(second) => Some((first, second)),
+            },
+        }
     }
 }

@@ -1,7 +1,8 @@
-ghost use Rattle.std.specs.Prelude.{◌≡◌, ℕ, ◌+◌, ◌-◌, ◌*◌, ◌/◌, ◌≤◌, ◌<◌, [], ◌∷◌, ◌++◌, length, max, None, slice_index, slice_index_or, OnOk, OnErr, MatchOption};
+ghost use Rattle.std.specs.Prelude.{◌≡◌, ℕ, ◌+◌, ◌-◌, ◌*◌, ◌/◌, ◌≤◌, ◌<◌, [], ◌∷◌, ◌++◌, length, max, None, slice_index, slice_index_or, OnOk, OnErr, MatchOption, IsTrue, ◌↔◌, Contains};
+ghost use Rattle.gi_lit.specs.Literals.{opposite};
 ghost use Rattle.gi_store.specs.Held.{Held};
 ghost use Rattle.gi_prop.specs.Attached.{Attached, Goes};
-ghost use Rattle.gi_prop.specs.Assigned.{Assigned, no_lits, HasValue, StandsAt, IsUnassigned, IsLevelAt, with_lit, with_level, cancelled, IsTrail};
+ghost use Rattle.gi_prop.specs.Assigned.{Assigned, no_lits, HasValue, StandsAt, IsUnassigned, IsLevelAt, with_lit, with_level, cancelled, IsTrail, IsUnseen};
 
 use crate::places::{add_places, add_values, unwind};
 use gi_lit::{Lit, Var};
@@ -94,6 +95,7 @@ impl Trail {
         requires free { HasValue self.old.lits l None }
         ensures added { self.new ≡ with_lit l why self.old }
         ensures room { length self.old.lits < self.old.vars }
+        ensures trail { IsTrail self.new }
         ensures goes { (p : Attached) (s : Held) → Goes p s self.old → Goes p s self.new }
     {
         let at = (l.var().index() - 1) as usize;
@@ -205,10 +207,36 @@ impl Trail {
         }
     }
 
-    /// Propagation has looked at each literal.
-    pub(crate) fn look_at_all(&mut self)
-        ensures { self.new ≡ record self.old { head = length self.old.lits } }
+    /// Whether the literal is false. In constant time.
+    pub(crate) fn is_false(&self, l: Lit) -> bool
+        requires { l / 2 ≤ self.now.vars }
+        ensures { IsTrue result ↔ Contains self.now.lits (opposite l) }
     {
-        self.head = self.lits.len();
+        let _ = &self.lits;
+        match self.value(l) {
+            Some(true) => false,
+            Some(false) => true,
+            None => false,
+        }
+    }
+
+    /// The first literal that propagation hasn't looked at. None exactly where it has looked at all.
+    pub(crate) fn unseen(&self) -> Option<Lit>
+        ensures value { MatchOption result (length self.now.lits ≤ self.now.head) (IsUnseen self.now) }
+        ensures trail { IsTrail self.now }
+    {
+        if self.head >= self.lits.len() {
+            return None;
+        }
+        Some(self.lits[self.head])
+    }
+
+    /// Propagation has looked at one literal more.
+    pub(crate) fn advance(&mut self)
+        requires { self.old.head < length self.old.lits }
+        ensures after { self.new ≡ record self.old { head = self.old.head + 1 } }
+        ensures trail { IsTrail self.new }
+    {
+        self.head += 1;
     }
 }

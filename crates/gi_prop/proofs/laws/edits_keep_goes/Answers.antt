@@ -1,4 +1,4 @@
-use Rattle.gi_prop.proofs.Adding.{goes_edit, goes_clause}
+use Rattle.gi_prop.proofs.Keys.{goes_edit, goes_clause}
 use Rattle.gi_prop.proofs.laws.edits_keep_goes.Goals as goal
 
 pub returns-clause-edits : goal.returns-clause-edits

@@ -1,8 +1,8 @@
-use Rattle.std.proofs.Common.{◌-◌, ◌≤◌, ◌/◌, length, length-set, not, ap, ◌∙◌, arith}
+use Rattle.std.proofs.Common.{◌-◌, ◌≤◌, ◌/◌, length, length-set, [], ◌∷◌, refl, not, ap, ◌∙◌, arith}
 use Rattle.gi_prop.proofs.Indexing.{room_left}
 use Rattle.gi_prop.proofs.Values.{even_is_not_odd}
-use Rattle.gi_prop.proofs.Adding.{goes_view}
-use Rattle.gi_prop.proofs.Laying.{laid_push}
+use Rattle.gi_prop.proofs.Keys.{goes_lits}
+use Rattle.gi_prop.proofs.Laying.{laid_push, laid_trail}
 use Rattle.gi_prop.proofs.trail.Trail.assign.Goals as goal
 
 pub push_reserved-requires : goal.push_reserved-requires
@@ -53,4 +53,7 @@ returns-clause-room c =
     rw (← c.self.view_is) r
 
 pub returns-clause-goes : goal.returns-clause-goes
-returns-clause-goes c = goes_view _ _ _ c.self.view_is (simp length-set (omega arith))
+returns-clause-goes c = goes_lits _ _ _ (c.args.l ∷ []) c.self.view_is (simp length-set (omega arith)) c.push_reserved-2.ensures.items refl refl refl c.self.invariant.begun.high
+
+pub returns-clause-trail : goal.returns-clause-trail
+returns-clause-trail c = laid_trail _ _ _ _ _ _ _ _ _ _ _ (invariant_of-self c)

@@ -1,6 +1,6 @@
 use Rattle.std.proofs.Common.{◌<◌, length, arith}
 use Rattle.std.proofs.lemmas.List.{get_or_read}
-use Rattle.gi_prop.proofs.Adding.{goes_view}
+use Rattle.gi_prop.proofs.Keys.{goes_cut}
 use Rattle.gi_prop.proofs.Laying.{laid_cut}
 use Rattle.gi_prop.proofs.trail.Trail.cancel_to.Goals as goal
 
@@ -24,4 +24,12 @@ invariant_of-self c =
     (omega (arith, c.truncate-4.ensures.capacity))
 
 pub returns-clause-goes : goal.returns-clause-goes
-returns-clause-goes c = goes_view _ _ _ c.self.view_is (omega (arith, c.unwind.ensures.places))
+returns-clause-goes c =
+    let lt : c.args.level < length c.self.inside.marks.items = (let x = c.if-level-len.false in omega (arith, x, c.len.ensures, c.self.inside.marks.ok.0)) in
+    let hlt : c.args.level < length c.self.inside.heads.items = omega (arith, c.self.invariant.begun.aligned) in
+    goes_cut _ _ _ c.args.level _ c.self.view_is c.self.invariant.begun lt (omega (arith, c.unwind.ensures.places))
+    (get_or_read c.self.inside.marks.items c.args.level c.index-len.result.now lt c.index-len.ensures 0)
+    c.unwind.ensures.lits
+    c.truncate.ensures.items
+    c.truncate-2.ensures.items
+    (get_or_read c.self.inside.heads.items c.args.level c.index.result.now hlt c.index.ensures 0)

@@ -1,5 +1,5 @@
-use Rattle.std.proofs.Common.{◌++◌, replicate, None, length, length-append, ap, ◌∙◌, arith}
-use Rattle.gi_prop.proofs.Adding.{goes_view}
+use Rattle.std.proofs.Common.{◌++◌, replicate, None, length, length-append, refl, ap, ◌∙◌, arith}
+use Rattle.gi_prop.proofs.Keys.{goes_same}
 use Rattle.gi_prop.proofs.Laying.{laid_grow}
 use Rattle.gi_prop.proofs.trail.Trail.grow.Goals as goal
 
@@ -16,4 +16,4 @@ invariant_of-self-2 c =
     (let a = c.in_ok-reserve-3.ensures.ok in omega (arith, a, c.in_ok-reserve-3.ensures.capacity, c.saturating_sub-more.ensures, c.saturating_sub-room.ensures, c.len.ensures, c.len-2.ensures, c.self.invariant.levels_fit, c.self.invariant.leveled.count, c.self.inside.places.ok.0, c.self.inside.lits.ok.0, c.self.inside.levels.ok.0))
 
 pub returns-clause-goes : goal.returns-clause-goes
-returns-clause-goes c = goes_view _ _ _ c.self.view_is (omega (arith, ap length (c.add_places.ensures ∙ ap (λ xs. xs ++ replicate c.saturating_sub-more.result None) c.in_ok-reserve-4.ensures.items), length-append c.self.inside.places.items (replicate c.saturating_sub-more.result None)))
+returns-clause-goes c = goes_same _ _ _ c.self.view_is (omega (arith, ap length (c.add_places.ensures ∙ ap (λ xs. xs ++ replicate c.saturating_sub-more.result None) c.in_ok-reserve-4.ensures.items), length-append c.self.inside.places.items (replicate c.saturating_sub-more.result None))) c.in_ok-reserve.ensures.items refl refl refl c.self.invariant.begun.high

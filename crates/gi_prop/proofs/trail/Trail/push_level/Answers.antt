@@ -1,5 +1,5 @@
-use Rattle.std.proofs.Common.{◌<◌, ◌++◌, ◌∷◌, [], length, ap, ◌∙◌, arith}
-use Rattle.gi_prop.proofs.Adding.{goes_view}
+use Rattle.std.proofs.Common.{◌≡◌, refl, ◌<◌, ◌++◌, ◌∷◌, [], length, ap, ◌∙◌, arith}
+use Rattle.gi_prop.proofs.Keys.{goes_level}
 use Rattle.gi_prop.proofs.Laying.{laid_mark}
 use Rattle.gi_prop.proofs.trail.Trail.push_level.Goals as goal
 
@@ -13,4 +13,6 @@ invariant_of-self-2 c =
     (c.push_reserved-2.ensures.items ∙ ap (λ xs. xs ++ c.self.inside.head ∷ []) c.in_ok-reserve-2.ensures.items)
 
 pub returns-clause-goes : goal.returns-clause-goes
-returns-clause-goes c = goes_view _ _ _ c.self.view_is (omega arith)
+returns-clause-goes c = goes_level _ _ _ c.self.view_is c.self.invariant.begun refl refl
+    (c.push_reserved.ensures.items ∙ ap (λ xs. xs ++ c.len.result ∷ []) c.in_ok-reserve.ensures.items ∙ ap (λ n. c.self.inside.marks.items ++ n ∷ []) (let e : c.len.result ≡ length c.self.inside.lits.items = omega (arith, c.len.ensures, c.self.inside.lits.ok.0) in e))
+    (c.push_reserved-2.ensures.items ∙ ap (λ xs. xs ++ c.self.inside.head ∷ []) c.in_ok-reserve-2.ensures.items) refl

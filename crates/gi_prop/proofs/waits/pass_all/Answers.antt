@@ -1,0 +1,12 @@
+use Rattle.gi_prop.proofs.Visiting.{added_on}
+use Rattle.gi_prop.proofs.Passing.{if_none, lists_passed}
+use Rattle.gi_prop.proofs.waits.pass_all.Goals as goal
+
+pub returns-in-Some-pass-clause-added : goal.returns-in-Some-pass-clause-added
+returns-in-Some-pass-clause-added c = added_on _ _ _ _ _ c.pass.ensures.watched.trail.reasons c.pass.ensures.added c.pass-2.ensures.added
+
+pub returns-clause-added : goal.returns-clause-added
+returns-clause-added c = added_on _ _ _ _ _ c.pass-2.ensures.watched.trail.reasons (added_on _ _ _ _ _ c.pass.ensures.watched.trail.reasons c.pass.ensures.added c.pass-2.ensures.added) c.pass-3.ensures.added
+
+pub returns-clause-passed : goal.returns-clause-passed
+returns-clause-passed c = if_none c.pass-3.result _ _ (λ p. lists_passed c.args.slots.now _ _ _ c.args.store.now _ _ _ c.pass-2.ensures.first_aside c.pass-3.ensures.first_aside c.pass-2.ensures.added.adds c.pass-3.ensures.added.adds c.in_default.ensures.passed c.in_default-pass.ensures.passed p) c.pass-3.ensures.passed

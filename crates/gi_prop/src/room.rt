@@ -1,0 +1,43 @@
+ghost use Rattle.std.specs.Prelude.{◌≡◌, ℕ, ◌+◌, ◌<◌, ◌≤◌, ◌++◌, None, length, replicate, vec_len, vec_capacity, OnOk};
+ghost use Rattle.gi_chains.specs.Lists.{IsApart};
+ghost use Rattle.gi_prop.specs.Watching.{HasMore};
+
+use gi_chains::Chains;
+use gi_store::Key;
+use std::alloc::AllocError;
+
+/// Makes a slot and two nodes of a number, and the lists below another. After an error there may be more nodes and lists, and as many slots.
+pub(crate) fn make_room(
+    slots: &mut Vec<Option<Key>>,
+    first: &mut Chains,
+    second: &mut Chains,
+    node: u64,
+    lists: u32,
+) -> Result<(), AllocError>
+    requires first_apart { IsApart first.old }
+    requires second_apart { IsApart second.old }
+    ensures first { HasMore first.old first.new }
+    ensures second { HasMore second.old second.new }
+    ensures slots { (m : ℕ) × (slots.new.items ≡ slots.old.items ++ replicate m None) }
+    ensures long { OnOk result (node < length slots.new.items) }
+    ensures nodes { OnOk result ((node < first.new.nodes) × (node < second.new.nodes)) }
+    ensures lists { OnOk result ((lists ≤ length first.new.lists) × (lists ≤ length second.new.lists)) }
+{
+    let most = (node as usize).checked_add(1).ok_or(AllocError)?;
+    let more = most.saturating_sub(slots.len());
+    slots.reserve(more)?;
+    first.grow(lists, node)?;
+    second.grow(lists, node)?;
+    add_slots(slots, more);
+    Ok(())
+}
+
+/// Adds slots without a key.
+fn add_slots(slots: &mut Vec<Option<Key>>, more: usize)
+    requires { vec_len slots.old + more ≤ vec_capacity slots.old }
+    ensures { slots.new.items ≡ slots.old.items ++ replicate more None }
+{
+    for _i in 0..more {
+        slots.push_reserved(None);
+    }
+}
