@@ -8,3 +8,4 @@ pub mod Assuming
 pub mod Opening
 pub mod Failing
 pub mod Placing
+pub mod Ready

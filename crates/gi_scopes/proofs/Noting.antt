@@ -1,8 +1,8 @@
 -- The reasons of one literal, marks of literals that are listed, and the list with its reasons as it grows.
 use Rattle.std.proofs.Common.{◌≡◌, ◌≢◌, ℕ, ◌+◌, ◌*◌, ◌/◌, ◌<◌, ◌≤◌, Bool, true, false, ◌||◌, nat_eq, List, [], ◌∷◌, ◌++◌, length, take, get_or, set, replicate, refl, sym, ap, ◌∙◌, subst, arith, ◌⊎◌, inl, inr, append_assoc, length-append, length-set, get_or-set_same, get_or-set_other}
 use Rattle.std.specs.List.{All, Contains}
-use Rattle.std.proofs.lemmas.Bool.{cases_lt, cases_eq, ne_eqb}
-use Rattle.std.proofs.lemmas.List.{take_more, take_at, take-append-le, get_or_append_left, get_or_push, get_or-replicate, length-replicate}
+use Rattle.std.proofs.lemmas.Bool.{cases_lt, cases_eq, ne_eqb, false≢true}
+use Rattle.std.proofs.lemmas.List.{take_more, take_at, take-append-le, get_or_append_left, get_or_push, get_or-replicate, length-replicate, get_or_past, take_all}
 use Rattle.std.proofs.lemmas.List.Elements.{All-nil, All-push, All-weaker, All-contains, All-contains_itself, All-more, Contains-get_or, Contains-append_left, Contains-append_right, Contains-append_cases, Contains-push, Contains-push_cases}
 use Rattle.std.proofs.lemmas.List.Folds.{list_any-append}
 use Rattle.gi_lit.specs.Literals.{opposite}
@@ -16,7 +16,7 @@ use Rattle.gi_prop.specs.Assigned.{Assigned}
 use Rattle.gi_model.specs.State.{Scope, listed_in, scope_listed}
 use Rattle.gi_scopes.specs.Open.{IsReasoned}
 use Rattle.gi_scopes.specs.Under.{AreForced, IsUnder, IsImpliedAt}
-use Rattle.gi_scopes.specs.Listing.{AreOthers, Notes, MarksToo, AreMarks, IsListing}
+use Rattle.gi_scopes.specs.Listing.{AreOthers, AreNoted, Notes, MarksToo, AreMarks, IsListing}
 use Rattle.gi_scopes.proofs.Fronts.{place_in_take, Contains-take}
 use Rattle.gi_scopes.proofs.Listing.{scope_listed-more}
 use Rattle.gi_scopes.proofs.Shadowing.{problem_or_guard, full_lit, guard_given}
@@ -78,6 +78,67 @@ or_comm false false = refl
 
 has-push_other : (xs : List ℕ) (y x : ℕ) → x ≢ y → has (xs ++ y ∷ []) x ≡ has xs x
 has-push_other xs y x ne = list_any-append (nat_eq x) xs (y ∷ []) ∙ ap (λ b. has xs x || (b || false)) (ne_eqb x y ne) ∙ or_false (has xs x)
+
+-- one code more is marked
+pub noted_push : (codes : List ℕ) (marks : List Bool) (y : ℕ) → AreNoted codes marks → y < length marks → AreNoted (codes ++ y ∷ []) (set marks y true)
+noted_push codes marks y h within = record {
+  each = λ x lt. elim (cases_eq x y) [
+    | inl same ↦ rw same (get_or-set_same marks y true false within) ∙ sym (has-from_Contains (codes ++ y ∷ []) x (subst (Contains (codes ++ y ∷ [])) (sym same) (Contains-push codes y)))
+    | inr ne ↦ get_or-set_other marks y x true false ne ∙ h.each x (omega (arith, lt, length-set marks y true)) ∙ sym (has-push_other codes y x ne)
+  ];
+}
+
+pub noted_none : (n : ℕ) (marks : List Bool) → marks ≡ replicate n false → AreNoted [] marks
+noted_none n marks e = record { each = λ x lt. ap (λ ms. get_or ms x false) e ∙ get_or-replicate n x false false (omega (arith, lt, ap length e, length-replicate n false)) }
+
+-- the marks that are left once the first codes are unmarked
+pub record UnmarkedTo (codes : List ℕ) (i : ℕ) (marks : List Bool) : Type 0 where
+  pub rest : (x : ℕ) → get_or marks x false ≡ true → Contains codes x × ¬ Contains (take i codes) x
+
+pub unmarked_none : (codes : List ℕ) (marks : List Bool) → AreNoted codes marks → UnmarkedTo codes 0 marks
+unmarked_none codes marks h = record {
+  rest = λ x e. elim (cases_lt x (length marks)) [
+    | inl lt ↦ (Contains-from_has codes x (sym (h.each x lt) ∙ e), λ c. omega (arith, c.1))
+    | inr past ↦ absurd (false≢true (sym (get_or_past marks x false past) ∙ e))
+  ];
+}
+
+module _ (codes : List ℕ) (i : ℕ) (lt : i < length codes) (marks : List Bool) (h : UnmarkedTo codes i marks) where
+  front : take (i + 1) codes ≡ take i codes ++ get_or codes i 0 ∷ []
+  front = take_more codes i 0 lt
+
+  other_left : (x : ℕ) → x ≢ get_or codes i 0 → get_or marks x false ≡ true → Contains codes x × ¬ Contains (take (i + 1) codes) x
+  other_left x ne e = ((h.rest x e).0, λ c. elim (Contains-push_cases (take i codes) (get_or codes i 0) x (subst (λ xs. Contains xs x) front c)) [ inl a ↦ (h.rest x e).1 a | inr same ↦ ne (sym same) ])
+
+  pub unmarked_skip : length marks ≤ get_or codes i 0 → UnmarkedTo codes (i + 1) marks
+  unmarked_skip past = record { rest = λ x e. other_left x (λ same. false≢true (sym (get_or_past marks x false (omega (arith, same, past))) ∙ e)) e }
+
+  pub unmarked_set : get_or codes i 0 < length marks → UnmarkedTo codes (i + 1) (set marks (get_or codes i 0) false)
+  unmarked_set within = record {
+    rest = λ x e. elim (cases_eq x (get_or codes i 0)) [
+      | inl same ↦ absurd (false≢true (sym (rw same (get_or-set_same marks (get_or codes i 0) false false within)) ∙ e))
+      | inr ne ↦ other_left x ne (sym (get_or-set_other marks (get_or codes i 0) x false false ne) ∙ e)
+    ];
+  }
+
+pub unmarked_all : (codes : List ℕ) (i : ℕ) (marks : List Bool) → length codes ≤ i → UnmarkedTo codes i marks → AreNoted [] marks
+unmarked_all codes i marks le h = record { each = λ x lt. unmarked (get_or marks x false) (λ e. let r = h.rest x e in r.1 (subst (λ xs. Contains xs x) (sym (take_all i codes le)) r.0)) }
+  where
+    unmarked : (b : Bool) → ¬ (b ≡ true) → b ≡ false
+    unmarked true n = absurd (n refl)
+    unmarked false n = refl
+
+-- where the noting of a clause's literals stands
+pub record NotingTo (clause : List ℕ) (m i : ℕ) (reasons : List ℕ) (count : ℕ) (marks : List Bool) : Type 0 where
+  pub others : AreOthers (take i clause) m reasons
+  pub marked : AreNoted reasons marks
+  pub same : length marks ≡ count
+
+-- and where the list stands, with no marks between its literals
+pub record ListingTo (p : Problem) (given earlier lits ls : List ℕ) (rss : List (List ℕ)) (count : ℕ) (marks : List Bool) : Type 0 where
+  pub listing : IsListing p given earlier lits ls rss
+  pub marked : AreNoted [] marks
+  pub same : length marks ≡ count
 
 pub marks_none : (old : List Bool) → MarksToo [] old old
 marks_none old = record { count = refl; each = λ x lt. refl }

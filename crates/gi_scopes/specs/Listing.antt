@@ -24,6 +24,10 @@ pub record Notes (m l : ℕ) (old new : List ℕ) : Type 0 where
   pub only : All (λ r. Contains old r ⊎ ((l ≢ m) × (r ≡ opposite l))) new
   pub distinct : IsDistinct old → IsDistinct new
 
+-- just these codes are marked, as far as there is a place for them
+pub record AreNoted (codes : List ℕ) (marks : List Bool) : Type 0 where
+  pub each : (x : ℕ) → x < length marks → slice_index_or marks x false ≡ has codes x
+
 -- these literals' codes are marked too
 pub record MarksToo (lits : List ℕ) (old new : List Bool) : Type 0 where
   pub count : length new ≡ length old

@@ -13,6 +13,8 @@ mod outcome;
 mod scopes;
 mod short;
 mod steps;
+#[cfg(test)]
+mod tests;
 mod trace;
 
 pub use answers::{Reasoned, Tested};

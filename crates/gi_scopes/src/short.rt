@@ -1,5 +1,4 @@
 ghost use Rattle.std.specs.Prelude.{◌≡◌, [], ◌∷◌, ◌++◌, OnOk, OnErr, IfOk};
-ghost use Rattle.gi_lit.specs.Problem.{has};
 
 use gi_lit::{Lit, Lits};
 use smallvec::SmallVec;
@@ -42,12 +41,11 @@ impl Short {
         Ok(())
     }
 
-    /// Whether the literal stands in the list.
-    pub(crate) fn has(&self, l: Lit) -> bool
-        ensures { result ≡ has self.now l }
+    /// The codes of the literals in order.
+    pub(crate) fn codes(&self) -> &[u32]
+        ensures { result.now ≡ self.now }
     {
-        let wanted = l.code();
-        self.codes.as_slice().iter().any(|code| wanted == *code)
+        self.codes.as_slice()
     }
 
     /// The literals in order.

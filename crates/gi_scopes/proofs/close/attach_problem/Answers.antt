@@ -17,4 +17,4 @@ loop-i-preserved c =
     attaching_more c.args.store.now c.args.trail.now c.loop-i.prop c.attach.new.self c.loop-i.i c.loop-i.invariant c.in-Some.key k.0 k.1 c.in_ok-attach.ensures.attached c.attach.ensures.goes
 
 pub returns-clause-keys : goal.returns-clause-keys
-returns-clause-keys c = attached_all c.args.store.now c.vars-vars.ensures.keys c.args.trail.now c.loop-i.prop c.loop-i.i (omega (arith, c.loop-i-test.false, c.loop-i.auto.i-end, c.problem-i-end.ensures)) c.loop-i.invariant
+returns-clause-keys c = attached_all c.args.store.now c.vars-vars.ensures.keys c.args.trail.now c.loop-i.prop c.loop-i.i (omega arith) c.loop-i.invariant

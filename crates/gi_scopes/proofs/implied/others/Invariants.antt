@@ -1,6 +1,6 @@
-use Rattle.std.proofs.Common.{take}
-use Rattle.gi_scopes.specs.Listing.{AreOthers}
+use Rattle.std.proofs.Common.{length}
+use Rattle.gi_scopes.proofs.Noting.{NotingTo}
 use Rattle.gi_scopes.proofs.implied.others.Given as goal
 
 abbrev pub invariant-loop-l : goal.invariant-loop-l
-invariant-loop-l l = AreOthers (take l.l-index l.clause) l.m l.reasons
+invariant-loop-l l = NotingTo l.clause l.m l.l-index l.reasons (length l.fn.noted) l.noted
