@@ -1,0 +1,97 @@
+// A symbol's line.
+ghost use Rattle.std.specs.Prelude.{◌≡◌, ◌≤◌, true, IfOk};
+ghost use Rattle.gi_text.specs.Numbers.{magnitude};
+ghost use Rattle.gi_aiger.specs.Symbols.{place_in, places_of, symbol_of, symbol_parts};
+ghost use Rattle.gi_aiger.specs.Fields.{split_space};
+ghost use Rattle.gi_aiger.specs.Header.{is_within};
+
+use crate::aig::Symbol;
+use crate::fields::{read_unsigned, skip, split_field};
+use crate::head::Head;
+use gi_text::Bytes;
+use std::alloc::{AllocError, Global};
+
+// How many places the section of a kind has.
+fn places_of(head: &Head, kind: u8) -> u64
+    ensures { result ≡ places_of head.now kind }
+{
+    if kind == b'i' {
+        return head.inputs;
+    }
+    if kind == b'l' {
+        return head.latches;
+    }
+    if kind == b'o' {
+        return head.outs;
+    }
+    if kind == b'b' {
+        return head.bads;
+    }
+    if kind == b'c' {
+        return head.cons;
+    }
+    if kind == b'j' {
+        return head.justice;
+    }
+    if kind == b'f' {
+        return head.fair;
+    }
+    0
+}
+
+// The place, if the section has it.
+fn place_of(places: u64, field: &[u8]) -> Option<u32>
+    requires { places ≤ 1048576 }
+    ensures { result ≡ place_in places (magnitude field.now) }
+{
+    match read_unsigned(field) {
+        None => None,
+        Some(place) => {
+            if place < places {
+                Some(place as u32)
+            } else {
+                None
+            }
+        }
+    }
+}
+
+// What stands behind a symbol's kind.
+fn read_parts(
+    alloc: Global,
+    places: u64,
+    kind: u8,
+    rest: &[u8],
+) -> Result<Option<Symbol>, AllocError>
+    requires { places ≤ 1048576 }
+    ensures { IfOk result (λ read. read ≡ symbol_parts places kind (split_space rest.now)) }
+{
+    match split_field(rest) {
+        None => Ok(None),
+        Some((field, name)) => match place_of(places, field) {
+            None => Ok(None),
+            Some(place) => {
+                if name.is_empty() {
+                    return Ok(None);
+                }
+                Ok(Some(Symbol {
+                    kind,
+                    place,
+                    name: Bytes::of(alloc, name)?,
+                }))
+            }
+        },
+    }
+}
+
+/// The symbol that a line is. None exactly where it is none of a file with this header.
+pub fn read_symbol(alloc: Global, head: &Head, line: &[u8]) -> Result<Option<Symbol>, AllocError>
+    requires { is_within head.now ≡ true }
+    ensures { IfOk result (λ read. read ≡ symbol_of head.now line.now) }
+{
+    if line.is_empty() {
+        return Ok(None);
+    }
+    let kind = line[0];
+    read_parts(alloc, places_of(head, kind), kind, skip(line, 1))
+}
