@@ -1,0 +1,4 @@
+pub mod Levelling
+pub mod Visiting
+pub mod Prefixes
+pub mod OneCycle
