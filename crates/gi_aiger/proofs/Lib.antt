@@ -3,3 +3,17 @@ pub mod Heading
 pub mod Rowing
 pub mod Takes
 pub mod Spacing
+pub mod OneCycle
+pub mod Marking
+pub mod Sectioning
+pub mod Naming
+pub mod Owning
+pub mod Grouping
+pub mod Adding
+pub mod Lining
+pub mod Runs
+pub mod Following
+pub mod Fitting
+pub mod Resolving
+pub mod Apart
+pub mod Sharing

@@ -38,3 +38,12 @@ capped n = min n 4294967296
 -- what is kept of numbers
 abbrev pub Keeps : List ℕ → Option (List ℕ) → Type 0
 Keeps kept read = (ns : List ℕ) × (read ≡ Some ns) × (kept ≡ map capped ns)
+
+-- numbers with one in front, where there is one
+abbrev pub own_in : Option ℕ → List ℕ → List ℕ
+own_in None ns = ns
+own_in (Some own) ns = own ∷ ns
+
+abbrev pub with_own : Option ℕ → Option (List ℕ) → Option (List ℕ)
+with_own own None = None
+with_own own (Some ns) = Some (own_in own ns)

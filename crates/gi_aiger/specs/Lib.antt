@@ -1,6 +1,17 @@
 pub mod Fields
+pub mod Lines
 pub mod Header
 pub mod Rows
 pub mod Marks
 pub mod Taking
+pub mod Sections
 pub mod Symbols
+pub mod Groups
+pub mod Named
+pub mod Files
+pub mod Machine
+pub mod Levels
+pub mod Places
+pub mod Reader
+pub mod Answers
+pub mod Laws

@@ -1,5 +1,6 @@
 -- The lines between the header and the symbols.
-use Rattle.std.specs.Prelude.{ℕ, ◌+◌, ◌*◌, ◌/◌, ◌%◌, nat_le, Bool, ◌==◌, ◌&&◌, ◌||◌, not, List, [], ◌∷◌, length, map, filter, slice_index, Option, Some, None, Result, Ok, Err, if◌then◌else◌}
+use Rattle.std.specs.Prelude.{ℕ, ◌+◌, ◌*◌, ◌/◌, ◌%◌, nat_le, Bool, ◌==◌, ◌&&◌, ◌||◌, not, List, [], ◌∷◌, ◌++◌, length, map, filter, slice_index, All, Contains, Option, Some, None, Result, Ok, Err, if◌then◌else◌}
+use Rattle.std.specs.List.{flat_map}
 use Rattle.gi_aiger.specs.declared.fault.AigCode.{AigCode}
 use Rattle.gi_aiger.specs.declared.fault.AigCode.TheVariants.{Limit, Count, Literal}
 use Rattle.gi_aiger.specs.declared.aig.Reset.{Reset}
@@ -75,6 +76,18 @@ abbrev pub row_read : ℕ → ℕ → Section → Option (List ℕ) → Result R
 row_read max room section (Some ns) = row_numbers max room section ns
 row_read max room section None = Err Count
 
+-- the section of a row
+abbrev pub section_of : Row → Section
+section_of (rows.Input l) = sections.Input
+section_of (rows.Latch l) = sections.Latch
+section_of (rows.Out l) = sections.Out
+section_of (rows.Bad l) = sections.Bad
+section_of (rows.Con l) = sections.Con
+section_of (rows.Size n) = sections.Size
+section_of (rows.Justice l) = sections.Justice
+section_of (rows.Fair l) = sections.Fair
+section_of (rows.Gate g) = sections.Gate
+
 -- the literals that a line uses
 abbrev pub literals_in : Row → List ℕ
 literals_in (rows.Input l) = []
@@ -102,3 +115,17 @@ defined_by (rows.Size n) = None
 defined_by (rows.Justice l) = None
 defined_by (rows.Fair l) = None
 defined_by (rows.Gate g) = Some (g.lhs / 2)
+
+-- the variable of a line that defines one
+abbrev pub variables_by : Option ℕ → List ℕ
+variables_by None = []
+variables_by (Some v) = v ∷ []
+
+-- the variables that lines define, in order
+abbrev pub defined_variables : List Row → List ℕ
+defined_variables [] = []
+defined_variables (r ∷ rs) = variables_by (defined_by r) ++ defined_variables rs
+
+-- each variable that these lines use is one that they define
+abbrev pub IsClosed : List Row → Type 0
+IsClosed lines = All (Contains (defined_variables lines)) (flat_map uses_of lines)

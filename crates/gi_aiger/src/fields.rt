@@ -9,7 +9,7 @@ use std::alloc::{AllocError, Global};
 use std::marker::Model;
 
 /// Stands for every number that is too big for any limit.
-const TOO_BIG: u64 = 4_294_967_296;
+pub const TOO_BIG: u64 = 4_294_967_296;
 
 /// The fields of a line, from the front. Single spaces part them.
 #[derive(Drop)]

@@ -1,5 +1,5 @@
 // The header's line.
-ghost use Rattle.std.specs.Prelude.{◌≡◌, Some, length, slice_index, IfOk};
+ghost use Rattle.std.specs.Prelude.{◌≡◌, Some, true, length, slice_index, IfOk};
 ghost use Rattle.gi_aiger.specs.Header.{form_of, head_of, is_fitting, is_tried, is_wrong, is_within, judge_head, has_head, head_numbers, head_parts, header_of};
 ghost use Rattle.gi_aiger.specs.Fields.{numbers_of};
 
@@ -107,7 +107,8 @@ fn is_within(head: Head) -> bool
 
 // The header is tried before its limits.
 fn judge(head: Head) -> Result<Head, AigCode>
-    ensures { result ≡ judge_head head }
+    ensures read { result ≡ judge_head head }
+    ensures within { IfOk result (λ h. is_within h ≡ true) }
 {
     if is_wrong(head) {
         return Err(AigCode::Header);
@@ -120,7 +121,8 @@ fn judge(head: Head) -> Result<Head, AigCode>
 
 // What the numbers of a header say, each up to a cap.
 fn judge_numbers(form: Form, numbers: &[u64]) -> Result<Head, AigCode>
-    ensures { result ≡ head_numbers form numbers.now }
+    ensures read { result ≡ head_numbers form numbers.now }
+    ensures within { IfOk result (λ h. is_within h ≡ true) }
 {
     if numbers.len() < 5 || numbers.len() > 9 {
         return Err(AigCode::Header);
@@ -130,7 +132,8 @@ fn judge_numbers(form: Form, numbers: &[u64]) -> Result<Head, AigCode>
 
 // What stands behind the header's word.
 fn read_counts(alloc: Global, form: Form, line: &[u8]) -> Result<Result<Head, AigCode>, AllocError>
-    ensures { IfOk result (λ read. read ≡ head_parts (Some form) (numbers_of line.now)) }
+    ensures read { IfOk result (λ read. read ≡ head_parts (Some form) (numbers_of line.now)) }
+    ensures within { IfOk result (λ read. IfOk read (λ h. is_within h ≡ true)) }
 {
     match read_numbers(alloc, line)? {
         None => Ok(Err(AigCode::Header)),
@@ -138,10 +141,11 @@ fn read_counts(alloc: Global, form: Form, line: &[u8]) -> Result<Result<Head, Ai
     }
 }
 
-/// What the header's line says.
+/// What the header's line says, or its fault. Every number of a header that is read is within its limit.
 #[tactic(auto, unfolding(crate::specs::Header::header_of))]
 pub fn read_header(alloc: Global, line: &[u8]) -> Result<Result<Head, AigCode>, AllocError>
-    ensures { IfOk result (λ read. read ≡ header_of line.now) }
+    ensures read { IfOk result (λ read. read ≡ header_of line.now) }
+    ensures within { IfOk result (λ read. IfOk read (λ h. is_within h ≡ true)) }
 {
     match split_field(line) {
         None => Ok(Err(AigCode::Header)),

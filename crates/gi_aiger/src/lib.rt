@@ -4,15 +4,32 @@
 mod aig;
 mod fault;
 mod fields;
+mod gates;
+mod groups;
 mod head;
+mod judge;
+mod laws;
 mod lists;
+mod machine;
 mod mark;
 mod marks;
+mod named;
+mod phase;
+mod read;
+mod reader;
 mod row;
+mod sections;
 mod sizes;
 mod symbol;
 mod taken;
+mod word;
 
 pub use aig::{Aig, AndGate, Latch, Reset, Symbol};
 pub use fault::{AigCode, AigFault};
+pub use laws::{cycles_stay, undefined_stays};
 pub use lists::{EdgeLists, Edges, Gates, Latches, Symbols};
+pub use read::AigRead;
+pub use reader::AigReader;
+
+#[cfg(test)]
+mod tests;

@@ -1,5 +1,5 @@
 // The lists of what a file says.
-ghost use Rattle.std.specs.Prelude.{◌≡◌, [], ◌∷◌, ◌++◌, length, IsTrue, ◌↔◌, OnOk, OnErr, slice_get};
+ghost use Rattle.std.specs.Prelude.{◌≡◌, [], ◌∷◌, ◌++◌, length, IsTrue, ◌↔◌, IfOk, OnOk, OnErr, slice_get};
 ghost use Rattle.std.specs.Option.{option_copied};
 
 use crate::aig::{AndGate, Latch, Symbol};
@@ -29,6 +29,15 @@ impl Edges {
         Edges {
             items: Vec::new(alloc),
         }
+    }
+
+    /// A copy of these literals.
+    pub fn of(alloc: Global, piece: &[Edge]) -> Result<Edges, AllocError>
+        ensures { IfOk result (λ edges. edges ≡ piece.now) }
+    {
+        Ok(Edges {
+            items: Vec::from_slice(alloc, piece)?,
+        })
     }
 
     /// Puts a literal behind the last one. A refused push changes nothing and drops the literal.

@@ -1,11 +1,11 @@
 // The lines between the header and the symbols.
-ghost use Rattle.std.specs.Prelude.{◌≡◌, ◌≤◌, length, slice_index, IfOk};
-ghost use Rattle.gi_aiger.specs.Fields.{numbers_of};
+ghost use Rattle.std.specs.Prelude.{◌≡◌, ◌≤◌, ℕ, List, Option, length, slice_index, IfOk};
+ghost use Rattle.gi_aiger.specs.Fields.{numbers_of, own_in, with_own, Keeps};
 ghost use Rattle.gi_aiger.specs.Rows.{has_row, literal_of, defining_of, reset_of, latch_of, gate_of, size_of, row_of, row_numbers, row_read};
 
 use crate::aig::{AndGate, Latch, Reset};
 use crate::fault::AigCode;
-use crate::fields::{number_at, read_numbers};
+use crate::fields::{TOO_BIG, number_at, read_numbers};
 use gi_lit::Edge;
 use std::alloc::{AllocError, Global};
 
@@ -172,21 +172,40 @@ fn row_numbers(max: u64, room: u64, section: Section, numbers: &[u64]) -> Result
     Err(AigCode::Count)
 }
 
-/// What a line of a section says, or its first fault by itself. `max` is the greatest variable, and `room` how many more
-/// justice literals there may be.
+// The numbers, each up to a cap, with the one that the line leaves out.
+fn with_own(alloc: Global, own: Option<u64>, numbers: Vec<u64>) -> Result<Vec<u64>, AllocError>
+    ensures { IfOk result (λ all. (read : Option (List ℕ)) → Keeps numbers.items read → Keeps all.items (with_own own read)) }
+{
+    match own {
+        None => Ok(numbers),
+        Some(own) => {
+            let mut all = Vec::new(alloc);
+            all.push(own.min(TOO_BIG))?;
+            all.extend_from_slice(numbers.as_slice())?;
+            Ok(all)
+        }
+    }
+}
+
+/// What a line of a section says, or its first fault by itself. `max` is the greatest variable, `room` how many more
+/// justice literals there may be, and `own` the number in front of the line's, where the form leaves it out.
 pub fn read_row(
     alloc: Global,
     max: u64,
     room: u64,
     section: Section,
+    own: Option<u64>,
     line: &[u8],
 ) -> Result<Result<Row, AigCode>, AllocError>
     requires max { max ≤ 1048576 }
     requires room { room ≤ 1048576 }
-    ensures { IfOk result (λ read. read ≡ row_read max room section (numbers_of line.now)) }
+    ensures { IfOk result (λ read. read ≡ row_read max room section (with_own own (numbers_of line.now))) }
 {
     match read_numbers(alloc, line)? {
         None => Ok(Err(AigCode::Count)),
-        Some(numbers) => Ok(row_numbers(max, room, section, numbers.as_slice())),
+        Some(numbers) => {
+            let numbers = with_own(alloc, own, numbers)?;
+            Ok(row_numbers(max, room, section, numbers.as_slice()))
+        }
     }
 }

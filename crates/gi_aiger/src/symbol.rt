@@ -1,5 +1,5 @@
 // A symbol's line.
-ghost use Rattle.std.specs.Prelude.{◌≡◌, ◌≤◌, true, IfOk};
+ghost use Rattle.std.specs.Prelude.{◌≡◌, ◌≤◌, ◌<◌, true, IfOk, IfSome};
 ghost use Rattle.gi_text.specs.Numbers.{magnitude};
 ghost use Rattle.gi_aiger.specs.Symbols.{place_in, places_of, symbol_of, symbol_parts};
 ghost use Rattle.gi_aiger.specs.Fields.{split_space};
@@ -13,7 +13,8 @@ use std::alloc::{AllocError, Global};
 
 // How many places the section of a kind has.
 fn places_of(head: &Head, kind: u8) -> u64
-    ensures { result ≡ places_of head.now kind }
+    ensures places { result ≡ places_of head.now kind }
+    ensures kind { 0 < result → (98 ≤ kind) × (kind < 114) }
 {
     if kind == b'i' {
         return head.inputs;
@@ -42,7 +43,8 @@ fn places_of(head: &Head, kind: u8) -> u64
 // The place, if the section has it.
 fn place_of(places: u64, field: &[u8]) -> Option<u32>
     requires { places ≤ 1048576 }
-    ensures { result ≡ place_in places (magnitude field.now) }
+    ensures place { result ≡ place_in places (magnitude field.now) }
+    ensures some { IfSome result (λ place. 0 < places) }
 {
     match read_unsigned(field) {
         None => None,
@@ -64,7 +66,8 @@ fn read_parts(
     rest: &[u8],
 ) -> Result<Option<Symbol>, AllocError>
     requires { places ≤ 1048576 }
-    ensures { IfOk result (λ read. read ≡ symbol_parts places kind (split_space rest.now)) }
+    ensures read { IfOk result (λ read. read ≡ symbol_parts places kind (split_space rest.now)) }
+    ensures kind { IfOk result (λ read. IfSome read (λ s. (s.kind ≡ kind) × (0 < places))) }
 {
     match split_field(rest) {
         None => Ok(None),
@@ -87,7 +90,8 @@ fn read_parts(
 /// The symbol that a line is. None exactly where it is none of a file with this header.
 pub fn read_symbol(alloc: Global, head: &Head, line: &[u8]) -> Result<Option<Symbol>, AllocError>
     requires { is_within head.now ≡ true }
-    ensures { IfOk result (λ read. read ≡ symbol_of head.now line.now) }
+    ensures read { IfOk result (λ read. read ≡ symbol_of head.now line.now) }
+    ensures kind { IfOk result (λ read. IfSome read (λ s. (98 ≤ s.kind) × (s.kind < 114))) }
 {
     if line.is_empty() {
         return Ok(None);

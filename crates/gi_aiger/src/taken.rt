@@ -1,12 +1,15 @@
 // What the lines between the header and the symbols said so far.
-ghost use Rattle.std.specs.Prelude.{◌≡◌, ◌≤◌, ◌<◌, ◌+◌, length, IfOk, OnOk};
+ghost use Rattle.std.specs.Prelude.{◌≡◌, ◌≤◌, ◌<◌, ◌+◌, [], true, length, IfOk, OnOk};
 ghost use Rattle.gi_aiger.specs.Rows.{defined_by};
 ghost use Rattle.gi_aiger.specs.Rows.{literals_in};
 ghost use Rattle.gi_aiger.specs.Marks.{all_used, defined, marked, used_literal};
-ghost use Rattle.gi_aiger.specs.Taking.{Fits, Gives, add_line, add_row, is_defined, is_known, next_section, nothing, room, to_come, with_row};
+ghost use Rattle.gi_aiger.specs.Taking.{Fits, Gives, add_by, add_line, add_row, is_defined, is_known, left_out, nothing, own_latch, room, to_come, with_row};
+ghost use Rattle.gi_aiger.specs.declared.head.Form.TheVariants as forms;
+ghost use Rattle.gi_aiger.specs.Header.{is_within};
 
 use crate::fault::AigCode;
-use crate::head::Head;
+use crate::fields::TOO_BIG;
+use crate::head::{Form, Head};
 use crate::lists::{Edges, Gates, Latches};
 use crate::mark::Mark;
 use crate::marks::Marks;
@@ -55,40 +58,6 @@ pub fn nothing(alloc: Global) -> Taken
         gates: Gates::new(alloc),
         marks: Marks::new(alloc),
     }
-}
-
-/// The section of the next line. None exactly where all lines up to the symbols are there.
-pub fn next_section(head: &Head, taken: &Taken) -> Option<Section>
-    ensures { result ≡ next_section head.now taken.now }
-{
-    if (taken.inputs.len() as u64) < head.inputs {
-        return Some(Section::Input);
-    }
-    if (taken.latches.len() as u64) < head.latches {
-        return Some(Section::Latch);
-    }
-    if (taken.outs.len() as u64) < head.outs {
-        return Some(Section::Out);
-    }
-    if (taken.bads.len() as u64) < head.bads {
-        return Some(Section::Bad);
-    }
-    if (taken.cons.len() as u64) < head.cons {
-        return Some(Section::Con);
-    }
-    if (taken.sizes.len() as u64) < head.justice {
-        return Some(Section::Size);
-    }
-    if taken.justice.len() < taken.total as usize {
-        return Some(Section::Justice);
-    }
-    if (taken.fair.len() as u64) < head.fair {
-        return Some(Section::Fair);
-    }
-    if (taken.gates.len() as u64) < head.gates {
-        return Some(Section::Gate);
-    }
-    None
 }
 
 // A line's row goes to its list.
@@ -218,27 +187,95 @@ fn to_come_after(head: &Head, taken: &Taken, row: &Row) -> u64
     }
 }
 
-// A line that is right by itself, behind those so far.
+// A line is wrong: the marks are of no use any more.
+fn forget(taken: &mut Taken, alloc: Global, code: AigCode) -> AigCode
+    ensures code { result ≡ code }
+    ensures taken { taken.new ≡ record taken.old { marks = [] } }
+{
+    taken.marks = Marks::new(alloc);
+    code
+}
+
+// A line of the ASCII form that is right by itself, behind those so far.
 #[tactic(auto, using(crate::proofs::Takes::marks_stay))]
-fn add_row(taken: &mut Taken, head: &Head, row: Row) -> Result<Option<AigCode>, AllocError>
+fn add_checked(
+    taken: &mut Taken,
+    alloc: Global,
+    head: &Head,
+    row: Row,
+) -> Result<Option<AigCode>, AllocError>
+    requires latches { head.now.latches ≤ 1048576 }
+    requires gates { head.now.gates ≤ 1048576 }
+    requires sum { taken.old.total ≤ 1048576 }
+    requires fits { Fits (room taken.old) row }
+    ensures { IfOk result (λ code. Gives code (add_by forms.Ascii head.now taken.old row) taken.old taken.new) }
+{
+    if is_known(&taken.marks, defined_by(&row)) {
+        return Ok(Some(forget(taken, alloc, AigCode::Defined)));
+    }
+    mark(&mut taken.marks, &row)?;
+    if to_come_after(head, taken, &row) < taken.marks.missing() as u64 {
+        return Ok(Some(forget(taken, alloc, AigCode::Undefined)));
+    }
+    push_row(taken, row)?;
+    Ok(None)
+}
+
+// A line that is right by itself, behind those so far.
+fn add_row(
+    taken: &mut Taken,
+    alloc: Global,
+    head: &Head,
+    row: Row,
+) -> Result<Option<AigCode>, AllocError>
     requires latches { head.now.latches ≤ 1048576 }
     requires gates { head.now.gates ≤ 1048576 }
     requires sum { taken.old.total ≤ 1048576 }
     requires fits { Fits (room taken.old) row }
     ensures { IfOk result (λ code. Gives code (add_row head.now taken.old row) taken.old taken.new) }
 {
-    if is_known(&taken.marks, defined_by(&row)) {
-        return Ok(Some(AigCode::Defined));
+    match head.form {
+        Form::Ascii => add_checked(taken, alloc, head, row),
+        Form::Binary => {
+            push_row(taken, row)?;
+            Ok(None)
+        }
     }
-    mark(&mut taken.marks, &row)?;
-    if to_come_after(head, taken, &row) < taken.marks.missing() as u64 {
-        return Ok(Some(AigCode::Undefined));
-    }
-    push_row(taken, row)?;
-    Ok(None)
 }
 
-/// A line of a section, behind those so far. `Some` is the line's first fault: then the gates are those that stood before.
+// The number that a line leaves out.
+fn left_out(form: Form, section: Section, own: u64) -> Option<u64>
+    ensures { result ≡ left_out form section own }
+{
+    match form {
+        Form::Ascii => None,
+        Form::Binary => match section {
+            Section::Latch => Some(own),
+            Section::Input => None,
+            Section::Out => None,
+            Section::Bad => None,
+            Section::Con => None,
+            Section::Size => None,
+            Section::Justice => None,
+            Section::Fair => None,
+            Section::Gate => None,
+        },
+    }
+}
+
+// The literal of the next latch in the binary form. There is no code for more latches than memory could hold.
+fn own_latch(head: &Head, taken: &Taken) -> Result<u64, AllocError>
+    requires { head.now.inputs ≤ 1048576 }
+    ensures { IfOk result (λ own. own ≡ own_latch head.now taken.now) }
+{
+    let latches = taken.latches.len() as u64;
+    if latches > TOO_BIG {
+        return Err(AllocError);
+    }
+    Ok(2 * (head.inputs + latches + 1))
+}
+
+/// A line of a section, behind those so far. `Some` is the line's first fault: then what those before it said still stands.
 pub fn add_line(
     taken: &mut Taken,
     alloc: Global,
@@ -246,15 +283,14 @@ pub fn add_line(
     section: Section,
     line: &[u8],
 ) -> Result<Option<AigCode>, AllocError>
-    requires max { head.now.max ≤ 1048576 }
-    requires latches { head.now.latches ≤ 1048576 }
-    requires gates { head.now.gates ≤ 1048576 }
+    requires within { is_within head.now ≡ true }
     requires sum { taken.old.total ≤ 1048576 }
     ensures { IfOk result (λ code. Gives code (add_line head.now taken.old section line.now) taken.old taken.new) }
 {
     let room = MOST_JUSTICE - u64::from(taken.total);
-    match read_row(alloc, head.max, room, section, line)? {
-        Err(code) => Ok(Some(code)),
-        Ok(row) => add_row(taken, head, row),
+    let own = left_out(head.form, section, own_latch(head, taken)?);
+    match read_row(alloc, head.max, room, section, own, line)? {
+        Err(code) => Ok(Some(forget(taken, alloc, code))),
+        Ok(row) => add_row(taken, alloc, head, row),
     }
 }

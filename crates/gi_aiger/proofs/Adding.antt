@@ -1,0 +1,123 @@
+-- What a line of a section adds.
+use Rattle.std.proofs.Common.{◌≡◌, ℕ, suc, ◌+◌, ◌-◌, ◌≤◌, nat_lt, nat_le, List, [], ◌∷◌, ◌++◌, length, get_or, Bool, true, false, cond, Option, Some, None, Result, Ok, Err, refl, ap, sym, ◌∙◌, subst, arith, length-append}
+use Rattle.gi_aiger.specs.declared.fault.AigCode.{AigCode}
+use Rattle.gi_aiger.specs.declared.fault.AigCode.TheVariants.{Defined, Undefined, Count}
+use Rattle.gi_aiger.specs.declared.aig.Reset.{Reset}
+use Rattle.gi_aiger.specs.declared.head.Form.{Form}
+use Rattle.gi_aiger.specs.declared.head.Form.TheVariants.{Ascii, Binary}
+use Rattle.gi_aiger.specs.declared.head.Head.{Head}
+use Rattle.gi_aiger.specs.declared.mark.Mark.{Mark}
+use Rattle.gi_aiger.specs.declared.row.Section.{Section}
+use Rattle.gi_aiger.specs.declared.row.Section.TheVariants as sections
+use Rattle.gi_aiger.specs.declared.row.Row.{Row}
+use Rattle.gi_aiger.specs.declared.row.Row.TheVariants as rows
+use Rattle.gi_aiger.specs.declared.taken.Taken.{Taken}
+use Rattle.gi_aiger.specs.Rows.{has_row, literal_of, defining_of, reset_of, latch_of, gate_of, row_with, size_of, row_of, row_read, section_of, defined_by}
+use Rattle.gi_aiger.specs.Marks.{marked, missing}
+use Rattle.gi_aiger.specs.Taking.{with_row, with_line, is_known, to_come, checked, add_by, add_row, add_line, then_row, room, numbers_in}
+use Rattle.gi_aiger.specs.Sections.{left_in}
+
+-- a row that is read is of its section
+abbrev pub IsOf : Section → Result Row AigCode → Type 0
+IsOf s (Ok row) = section_of row ≡ s
+IsOf s (Err c) = Unit {0}
+
+with_of : (s : Section) (row : ℕ → Row) → ((n : ℕ) → section_of (row n) ≡ s) → (r : Result ℕ AigCode) → IsOf s (row_with row r)
+with_of s row h (Ok n) = h n
+with_of s row h (Err c) = tt
+
+latch_is : (own next : Result ℕ AigCode) (reset : Result Reset AigCode) → IsOf sections.Latch (latch_of own next reset)
+latch_is (Ok l) (Ok n) (Ok r) = refl
+latch_is (Ok l) (Ok n) (Err c) = tt
+latch_is (Ok l) (Err c) reset = tt
+latch_is (Err c) next reset = tt
+
+gate_is : (lhs rhs0 rhs1 : Result ℕ AigCode) → IsOf sections.Gate (gate_of lhs rhs0 rhs1)
+gate_is (Ok l) (Ok a) (Ok b) = refl
+gate_is (Ok l) (Ok a) (Err c) = tt
+gate_is (Ok l) (Err c) rhs1 = tt
+gate_is (Err c) rhs0 rhs1 = tt
+
+row_is : (max room : ℕ) (s : Section) (ns : List ℕ) → IsOf s (row_of max room s ns)
+row_is max room sections.Input ns = with_of sections.Input rows.Input (λ n. refl) (defining_of max (get_or ns 0 0))
+row_is max room sections.Latch ns = latch_is (defining_of max (get_or ns 0 0)) (literal_of max (get_or ns 1 0)) (reset_of (get_or ns 0 0) (get_or ns 2 0))
+row_is max room sections.Out ns = with_of sections.Out rows.Out (λ n. refl) (literal_of max (get_or ns 0 0))
+row_is max room sections.Bad ns = with_of sections.Bad rows.Bad (λ n. refl) (literal_of max (get_or ns 0 0))
+row_is max room sections.Con ns = with_of sections.Con rows.Con (λ n. refl) (literal_of max (get_or ns 0 0))
+row_is max room sections.Size ns = with_of sections.Size rows.Size (λ n. refl) (size_of room (get_or ns 0 0))
+row_is max room sections.Justice ns = with_of sections.Justice rows.Justice (λ n. refl) (literal_of max (get_or ns 0 0))
+row_is max room sections.Fair ns = with_of sections.Fair rows.Fair (λ n. refl) (literal_of max (get_or ns 0 0))
+row_is max room sections.Gate ns = gate_is (defining_of max (get_or ns 0 0)) (literal_of max (get_or ns 1 0)) (literal_of max (get_or ns 2 0))
+
+pub read_is : (max room : ℕ) (s : Section) (read : Option (List ℕ)) → IsOf s (row_read max room s read)
+read_is max room s None = tt
+read_is max room s (Some ns) = by_test (has_row s (length ns)) where
+  by_test : (b : Bool) → IsOf s (cond b (row_of max room s ns) (Err Count))
+  by_test true = row_is max room s ns
+  by_test false = tt
+
+-- a line that is right adds its row
+pub record Adds (h : Head) (t u : Taken) (s : Section) (line : List ℕ) : Type 0 where
+  pub row : Row
+  pub read : row_read h.max (room t) s (numbers_in h t s line) ≡ Ok row
+  pub added : add_row h t row ≡ Ok u
+  pub section : section_of row ≡ s
+
+pub adds : (h : Head) (t u : Taken) (s : Section) (line : List ℕ) → add_line h t s line ≡ Ok u → Adds h t u s line
+adds h t u s line e = by_row (row_read h.max (room t) s (numbers_in h t s line)) refl e where
+  by_row : (r : Result Row AigCode) → row_read h.max (room t) s (numbers_in h t s line) ≡ r → then_row r (add_row h t) ≡ Ok u → Adds h t u s line
+  by_row (Ok row) is e = record { row = row; read = is; added = e; section = subst (IsOf s) is (read_is h.max (room t) s (numbers_in h t s line)) }
+  by_row (Err c) is e = absurd cc
+
+-- and it may change the marks
+pub record Rowed (t u : Taken) (row : Row) : Type 0 where
+  pub marks : List Mark
+  pub is : u ≡ with_row (record t { marks = marks }) row
+
+ok_is : {t u : Taken} → ◌≡◌ {A = Result Taken AigCode} (Ok t) (Ok u) → u ≡ t
+ok_is e = cc
+
+pub added_is : (h : Head) (t u : Taken) (row : Row) → add_row h t row ≡ Ok u → Rowed t u row
+added_is h t u row e = by_form h.form e where
+  by_check : (b : Bool) → cond b (Err Undefined) (Ok (with_line t row)) ≡ Ok u → Rowed t u row
+  by_check true e = absurd cc
+  by_check false e = record { marks = marked row t.marks; is = ok_is e }
+
+  by_known : (b : Bool) → cond b (Err Defined) (checked h (with_line t row)) ≡ Ok u → Rowed t u row
+  by_known true e = absurd cc
+  by_known false e = by_check (nat_lt (to_come h (with_line t row)) (missing (with_line t row).marks)) e
+
+  by_form : (f : Form) → add_by f h t row ≡ Ok u → Rowed t u row
+  by_form Ascii e = by_known (is_known (defined_by row) t.marks) e
+  by_form Binary e = record { marks = t.marks; is = ok_is e }
+
+-- one line less is to come
+less : (h : Head) (t : Taken) (row : Row) (n : ℕ) → left_in h t (section_of row) ≡ suc n → left_in h (with_row t row) (section_of row) ≡ n
+less h t (rows.Input l) n e = omega (arith, e, length-append t.inputs (l ∷ []))
+less h t (rows.Latch l) n e = omega (arith, e, length-append t.latches (l ∷ []))
+less h t (rows.Out l) n e = omega (arith, e, length-append t.outs (l ∷ []))
+less h t (rows.Bad l) n e = omega (arith, e, length-append t.bads (l ∷ []))
+less h t (rows.Con l) n e = omega (arith, e, length-append t.cons (l ∷ []))
+less h t (rows.Size m) n e = omega (arith, e, length-append t.sizes (m ∷ []))
+less h t (rows.Justice l) n e = omega (arith, e, length-append t.justice (l ∷ []))
+less h t (rows.Fair l) n e = omega (arith, e, length-append t.fair (l ∷ []))
+less h t (rows.Gate g) n e = omega (arith, e, length-append t.gates (g ∷ []))
+
+-- other marks leave as many lines to come
+marks_no : (h : Head) (t : Taken) (ms : List Mark) (s : Section) → left_in h (record t { marks = ms }) s ≡ left_in h t s
+marks_no h t ms sections.Input = refl
+marks_no h t ms sections.Latch = refl
+marks_no h t ms sections.Out = refl
+marks_no h t ms sections.Bad = refl
+marks_no h t ms sections.Con = refl
+marks_no h t ms sections.Size = refl
+marks_no h t ms sections.Justice = refl
+marks_no h t ms sections.Fair = refl
+marks_no h t ms sections.Gate = refl
+
+pub one_less : (h : Head) (t u : Taken) (s : Section) (line : List ℕ) (n : ℕ) → add_line h t s line ≡ Ok u → left_in h t s ≡ suc n → left_in h u s ≡ n
+one_less h t u s line n e left =
+    let a = adds h t u s line e in
+    let r = added_is h t u a.row a.added in
+    let before : left_in h (record t { marks = r.marks }) (section_of a.row) ≡ suc n = ap (left_in h (record t { marks = r.marks })) a.section ∙ marks_no h t r.marks s ∙ left in
+    ap (left_in h u) (sym a.section) ∙ ap (λ (v : Taken). left_in h v (section_of a.row)) r.is ∙ less h (record t { marks = r.marks }) a.row n before

@@ -1,0 +1,31 @@
+-- What a reader answers of all bytes that it was fed.
+use Rattle.std.specs.Prelude.{◌≡◌, ℕ, ◌+◌, ◌⊎◌, List, Result, Ok, Err}
+use Rattle.gi_aiger.specs.declared.aig.Aig.{Aig}
+use Rattle.gi_aiger.specs.declared.fault.AigCode.TheVariants.{Cycle}
+use Rattle.gi_aiger.specs.declared.fault.AigFault.{AigFault}
+use Rattle.gi_aiger.specs.declared.read.AigRead.{AigRead}
+use Rattle.gi_aiger.specs.declared.read.AigRead.TheVariants as reads
+use Rattle.gi_aiger.specs.Files.{Told, read_file}
+use Rattle.gi_aiger.specs.Levels.{HasLevels, ClosesCycle}
+
+-- what is read of what a file says: a gate that closes a cycle stands before every other fault
+abbrev pub Answer : Told → Result Aig AigFault → Type 0
+Answer told read = (HasLevels told.gates × (read ≡ told.read)) ⊎ ((k : ℕ) × ClosesCycle told.gates k × (read ≡ Err (record { line = told.first + k; gate = 0; code = Cycle })))
+
+-- it is answered, unless memory ran out
+abbrev pub Tells : AigRead → Told → Type 0
+Tells (reads.Aig v) told = Answer told (Ok v)
+Tells (reads.Fault fault) told = Answer told (Err fault)
+Tells reads.NoMemory told = Unit {0}
+
+-- the same with cycles left aside
+abbrev pub Reads : AigRead → Result Aig AigFault → Type 0
+Reads (reads.Aig v) read = read ≡ Ok v
+Reads (reads.Fault fault) read = read ≡ Err fault
+Reads reads.NoMemory read = Unit {0}
+
+-- a cycle is answered
+abbrev pub IsCycleAt : AigRead → ℕ → Type 0
+IsCycleAt (reads.Aig v) line = ⊥
+IsCycleAt (reads.Fault fault) line = fault ≡ record { line = line; gate = 0; code = Cycle }
+IsCycleAt reads.NoMemory line = Unit {0}
