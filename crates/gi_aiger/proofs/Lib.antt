@@ -17,3 +17,4 @@ pub mod Fitting
 pub mod Resolving
 pub mod Apart
 pub mod Sharing
+pub mod Failing

@@ -47,7 +47,7 @@ unfolding answer
 last_is s e = ap (λ (b : Bool). answer_now (cond b s (line_ends s))) (ap (λ (w : List ℕ). length w == 0) e)
 
 -- the answer where one is
-last_begun : (s : Machine) (b : ℕ) (w : List ℕ) → s.word ≡ b ∷ w → answer s ≡ answer_now (line_ends s)
+pub last_begun : (s : Machine) (b : ℕ) (w : List ℕ) → s.word ≡ b ∷ w → answer s ≡ answer_now (line_ends s)
 unfolding answer
 last_begun s b w e = ap (λ (t : Bool). answer_now (cond t s (line_ends s))) (ap (λ (w : List ℕ). length w == 0) e ∙ ne_eqb (length (b ∷ w)) 0 (λ z. omega arith))
 

@@ -14,4 +14,5 @@ pub mod Levels
 pub mod Places
 pub mod Reader
 pub mod Answers
+pub mod Texts
 pub mod Laws

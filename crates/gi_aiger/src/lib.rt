@@ -23,13 +23,15 @@ mod sizes;
 mod symbol;
 mod taken;
 mod word;
+mod writing;
 
 pub use aig::{Aig, AndGate, Latch, Reset, Symbol};
 pub use fault::{AigCode, AigFault};
-pub use laws::{cycles_stay, undefined_stays};
+pub use laws::{cycles_stay, faults_stand, undefined_stays};
 pub use lists::{EdgeLists, Edges, Gates, Latches, Symbols};
 pub use read::AigRead;
 pub use reader::AigReader;
+pub use writing::write_ascii;
 
 #[cfg(test)]
 mod tests;
