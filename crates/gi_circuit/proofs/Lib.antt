@@ -1,3 +1,5 @@
 pub mod Gates
 pub mod Sound
 pub mod Meaning
+pub mod Again
+pub mod Wiring

@@ -7,6 +7,7 @@ use Rattle.std.proofs.lemmas.Option.{slice_get_within, get_or_from_slice_get}
 use Rattle.std.proofs.lemmas.List.Sums.{fold-append}
 use Rattle.gi_circuit.specs.Values.{value_in}
 use Rattle.gi_lit.specs.Literals.{opposite}
+use Rattle.gi_circuit.specs.Laws.{IsConjunction}
 use Rattle.gi_circuit.specs.Nodes.{Parts, value_of, node_values, IsPlaced, IsOrdered, gate_from, folded, Made, gate_in, and_in, pair_of}
 use Rattle.gi_circuit.specs.declared.node.Node.{Node}
 use Rattle.gi_circuit.specs.declared.node.Node.TheVariants.{Input, Latch, Gate}
@@ -125,13 +126,6 @@ gate_at inputs latches c i low high o at =
     ∙ new_value inputs latches (take i c.nodes) (Gate low high) (i + 1) (ap (λ z. z + 1) (sym len))
     ∙ ap (λ t. t && value_in (node_values inputs latches (take i c.nodes)) high) (sym (ap (λ z. value_in (node_values inputs latches z) low) split' ∙ front_edge inputs latches (take i c.nodes) (drop i c.nodes) low (omega (arith, p0, p1, len))))
     ∙ ap (λ t. value_in (node_values inputs latches c.nodes) low && t) (sym (ap (λ z. value_in (node_values inputs latches z) high) split' ∙ front_edge inputs latches (take i c.nodes) (drop i c.nodes) high (omega (arith, p1, len))))
-
--- what a conjunction leaves: the nodes with perhaps one more, and an edge of the conjunction's value
-pub record IsConjunction (inputs latches : List Bool) (c : Parts) (a b : ℕ) (m : Made) : Type 0 where
-  pub more : List Node
-  pub nodes : m.nodes ≡ c.nodes ++ more
-  pub within : m.edge / 2 ≤ length m.nodes
-  pub value : value_in (node_values inputs latches m.nodes) m.edge ≡ (value_in (node_values inputs latches c.nodes) a && value_in (node_values inputs latches c.nodes) b)
 
 module _ (inputs latches : List Bool) (c : Parts) (o : IsOrdered c) (a b : ℕ) (al : a / 2 ≤ length c.nodes) (bl : b / 2 ≤ length c.nodes) where
   abbrev vs : List Bool

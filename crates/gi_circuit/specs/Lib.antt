@@ -1,2 +1,6 @@
 pub mod Values
 pub mod Nodes
+pub mod Systems
+pub mod Laws
+pub mod Frames
+pub mod Encoding

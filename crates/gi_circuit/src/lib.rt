@@ -1,11 +1,17 @@
 //! Circuits of inputs, latches and hashed and-gates, and their values.
 #![tactic(auto)]
 
+mod circuit;
 mod fold;
+mod laws;
 mod net;
 mod node;
+#[cfg(test)]
+mod tests;
 mod values;
 
+pub use circuit::{Circuit, Counts};
+pub use laws::{conjunctions_have_their_values, pairs_come_again};
 pub use net::{Net, Size};
 pub use node::Node;
 pub use values::Values;
