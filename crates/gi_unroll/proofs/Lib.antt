@@ -1,0 +1,10 @@
+pub mod Encoding
+pub mod Choosing
+pub mod Drafts
+pub mod Rebuilding
+pub mod Unrolling
+pub mod Framing
+pub mod Steps
+pub mod Drawing
+pub mod Adding
+pub mod Extending
