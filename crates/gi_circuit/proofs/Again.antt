@@ -41,12 +41,12 @@ folded_comm a b =
     let last : (if_same : Bool) → cond if_same (Some b) (cond (b == opposite a) (Some 0) None) ≡ cond if_same (Some b) (cond (a == opposite b) (Some 0) None) = λ (z : Bool). ap (λ t. cond z (Some b) (cond t (Some 0) None)) (sym (opposite_comm a b)) in
     ap (λ t. cond t (Some 0) (cond (b == 1) (Some a) (cond (a == 1) (Some b) (cond (b == a) (Some b) (cond (b == opposite a) (Some 0) None))))) (or_comm (b == 0) (a == 0))
     ∙ ap (λ o. cond (a == 0 || b == 0) (Some 0) o) (
-      chosen (b == 1) (a == 1) b a (cond (b == a) (Some b) (cond (b == opposite a) (Some 0) None)) (λ p q. eqb-true b 1 p ∙ sym (eqb-true a 1 q))
-      ∙ ap (λ o. cond (a == 1) (Some b) (cond (b == 1) (Some a) o)) (
-        last (b == a)
-        ∙ same_chosen (b == a) b a (cond (a == opposite b) (Some 0) None) (λ p. eqb-true b a p)
-        ∙ ap (λ t. cond t (Some a) (cond (a == opposite b) (Some 0) None)) (eqb_comm b a)
-      )
+    chosen (b == 1) (a == 1) b a (cond (b == a) (Some b) (cond (b == opposite a) (Some 0) None)) (λ p q. eqb-true b 1 p ∙ sym (eqb-true a 1 q))
+    ∙ ap (λ o. cond (a == 1) (Some b) (cond (b == 1) (Some a) o)) (
+    last (b == a)
+    ∙ same_chosen (b == a) b a (cond (a == opposite b) (Some 0) None) (λ p. eqb-true b a p)
+    ∙ ap (λ t. cond t (Some a) (cond (a == opposite b) (Some 0) None)) (eqb_comm b a)
+    )
     )
 
 pair_comm : (a b : ℕ) → a ≢ b → pair_of b a ≡ pair_of a b
@@ -87,7 +87,6 @@ found_last n (Gate c d ∷ ns) low high e = found_later n ns c d low high e (low
 pub again : (nodes : List Node) (a b : ℕ) → and_in (and_in nodes a b).nodes a b ≡ and_in nodes a b
 again nodes a b = go (folded a b) refl
   where
-
     gate : (g : Option ℕ) → folded a b ≡ None → gate_from 1 nodes (pair_of a b).low (pair_of a b).high ≡ g → and_in (and_in nodes a b).nodes a b ≡ and_in nodes a b
     gate (Some k) f g =
         let m : and_in nodes a b ≡ record { nodes = nodes; edge = 2 * k } = and_in-gate nodes a b f ∙ ap (gate_in nodes (pair_of a b).low (pair_of a b).high) g in

@@ -3,3 +3,5 @@ pub mod Sound
 pub mod Meaning
 pub mod Again
 pub mod Wiring
+pub mod Ordering
+pub mod Importing

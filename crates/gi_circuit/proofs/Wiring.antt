@@ -10,19 +10,22 @@ use Rattle.gi_circuit.specs.declared.node.Node.TheVariants.{Gate}
 use Rattle.gi_circuit.proofs.Gates.{and_in-folded, and_in-gate}
 
 -- a conjunction loses no node
-pub and_in-more : (nodes : List Node) (a b : ℕ) → (more : List Node) × ((and_in nodes a b).nodes ≡ nodes ++ more)
+pub and_in-more : (nodes : List Node) (a b : ℕ) → (more : List Node) × ((and_in nodes a b).nodes ≡ nodes ++ more) × (length more ≤ 1)
 and_in-more nodes a b = go (folded a b) refl
   where
-    gate : (g : Option ℕ) → folded a b ≡ None → gate_from 1 nodes (pair_of a b).low (pair_of a b).high ≡ g → (more : List Node) × ((and_in nodes a b).nodes ≡ nodes ++ more)
-    gate (Some k) f g = ([], ap (λ (m : Made). m.nodes) (and_in-gate nodes a b f ∙ ap (gate_in nodes (pair_of a b).low (pair_of a b).high) g) ∙ sym (append-nil nodes))
-    gate None f g = (Gate (pair_of a b).low (pair_of a b).high ∷ [], ap (λ (m : Made). m.nodes) (and_in-gate nodes a b f ∙ ap (gate_in nodes (pair_of a b).low (pair_of a b).high) g))
+    gate : (g : Option ℕ) → folded a b ≡ None → gate_from 1 nodes (pair_of a b).low (pair_of a b).high ≡ g → (more : List Node) × ((and_in nodes a b).nodes ≡ nodes ++ more) × (length more ≤ 1)
+    gate (Some k) f g = ([], ap (λ (m : Made). m.nodes) (and_in-gate nodes a b f ∙ ap (gate_in nodes (pair_of a b).low (pair_of a b).high) g) ∙ sym (append-nil nodes), omega arith)
+    gate None f g = (Gate (pair_of a b).low (pair_of a b).high ∷ [], ap (λ (m : Made). m.nodes) (and_in-gate nodes a b f ∙ ap (gate_in nodes (pair_of a b).low (pair_of a b).high) g), omega arith)
 
-    go : (o : Option ℕ) → folded a b ≡ o → (more : List Node) × ((and_in nodes a b).nodes ≡ nodes ++ more)
-    go (Some e) f = ([], ap (λ (m : Made). m.nodes) (and_in-folded nodes a b e f) ∙ sym (append-nil nodes))
+    go : (o : Option ℕ) → folded a b ≡ o → (more : List Node) × ((and_in nodes a b).nodes ≡ nodes ++ more) × (length more ≤ 1)
+    go (Some e) f = ([], ap (λ (m : Made). m.nodes) (and_in-folded nodes a b e f) ∙ sym (append-nil nodes), omega arith)
     go None f = gate (gate_from 1 nodes (pair_of a b).low (pair_of a b).high) f refl
 
-and_in-longer : (nodes : List Node) (a b : ℕ) → length nodes ≤ length (and_in nodes a b).nodes
+pub and_in-longer : (nodes : List Node) (a b : ℕ) → length nodes ≤ length (and_in nodes a b).nodes
 and_in-longer nodes a b = let m = and_in-more nodes a b in let l = ap length m.1 in omega (arith, l, length-append nodes m.0)
+
+pub and_in-one : (nodes : List Node) (a b : ℕ) → length (and_in nodes a b).nodes ≤ length nodes + 1
+and_in-one nodes a b = let m = and_in-more nodes a b in let l = ap length m.1 in let one = m.2 in omega (arith, l, one, length-append nodes m.0)
 
 -- where there are as many nodes as before they are the same
 pub and_in-same : (nodes : List Node) (a b : ℕ) → length (and_in nodes a b).nodes ≡ length nodes → (and_in nodes a b).nodes ≡ nodes

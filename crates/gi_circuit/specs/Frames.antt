@@ -88,7 +88,7 @@ reset_along d Free = choice_along d
 -- frame 0 begins with a variable that is true
 abbrev pub draft_of : Frames → ℕ → Draft
 draft_of f n = if f.made == 0 then record { net = []; choices = f.choices; lits = (2 * n + 1) ∷ []; next = n + 1; clauses = (2 * n ∷ []) ∷ []; edges = 0 ∷ [] }
-  else record { net = f.net; choices = f.choices; lits = f.lits; next = n; clauses = []; edges = 0 ∷ [] }
+    else record { net = f.net; choices = f.choices; lits = f.lits; next = n; clauses = []; edges = 0 ∷ [] }
 
 -- the latches: at first their resets, and later what the frame before made of their next states
 abbrev pub latches_of : System → Frames → Along → Along

@@ -4,3 +4,5 @@ pub mod Systems
 pub mod Laws
 pub mod Frames
 pub mod Encoding
+pub mod Import
+pub mod Order

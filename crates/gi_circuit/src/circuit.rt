@@ -1,11 +1,14 @@
-ghost use Rattle.std.specs.Prelude.{◌≡◌, ◌+◌, ◌/◌, ◌^◌, ◌<◌, ◌≤◌, ◌∷◌, ◌++◌, [], length, slice_set, count_by, IfOk, OnOk, OnErr};
+ghost use Rattle.std.specs.Prelude.{◌≡◌, ◌+◌, ◌/◌, ◌^◌, ◌<◌, ◌≤◌, ◌∷◌, ◌++◌, [], length, slice_set, count_by, ℕ, List, All, IfOk, OnOk, OnErr};
 ghost use Rattle.gi_circuit.specs.Nodes.{Parts, node_values, and_in, is_gate, IsMade, next_edge};
+ghost use Rattle.gi_circuit.specs.Import.{AreApart, IsAcyclic, AreLevels, IsByLevel, var_at, system_of};
 ghost use Rattle.gi_circuit.specs.Systems.{System, empty_system, IsCircuit, input_added, latch_added};
 
+use crate::import::Importer;
 use crate::net::Net;
 use crate::node::Node;
+use crate::order::gates_by_level;
 use crate::values::Values;
-use gi_aiger::Reset;
+use gi_aiger::{Aig, Reset};
 use gi_lit::Edge;
 use std::alloc::{AllocError, Global};
 use std::marker::Model;
@@ -24,6 +27,7 @@ pub struct Circuit {
 }
 
 impl Model for Circuit {
+    ghost use Rattle.gi_circuit.specs.Import.{AreApart, IsAcyclic, AreLevels, IsByLevel, var_at, system_of};
     ghost use Rattle.gi_circuit.specs.Systems.{System, IsWired};
 
     ghost Value = { System };
@@ -202,12 +206,64 @@ impl Circuit {
 
     /// The values of all nodes, where the inputs and the latches have these values, as many as `counts`
     /// tells.
-    pub fn eval(&self, alloc: Global, inputs: &[bool], latches: &[bool]) -> Result<Values, AllocError>
+    pub fn eval(
+        &self,
+        alloc: Global,
+        inputs: &[bool],
+        latches: &[bool],
+    ) -> Result<Values, AllocError>
         requires inputs { length inputs.now ≡ self.now.parts.inputs }
         requires latches { length latches.now ≡ self.now.parts.latches }
         ensures values { IfOk result (λ v. v ≡ node_values inputs.now latches.now self.now.parts.nodes) }
         ensures len { IfOk result (λ v. length v ≡ length self.now.parts.nodes + 1) }
     {
         self.net.eval(alloc, inputs, latches)
+    }
+
+    /// Gives all latches their next states, and the circuit its outputs, bad states and constraints.
+    pub(crate) fn wire(
+        &mut self,
+        nexts: Vec<Edge>,
+        outs: Vec<Edge>,
+        bads: Vec<Edge>,
+        cons: Vec<Edge>,
+    )
+        requires count { length nexts.items ≡ self.old.parts.latches }
+        requires nexts { All (λ e. e / 2 ≤ length self.old.parts.nodes) nexts.items }
+        requires outs { All (λ e. e / 2 ≤ length self.old.parts.nodes) outs.items }
+        requires bads { All (λ e. e / 2 ≤ length self.old.parts.nodes) bads.items }
+        requires cons { All (λ e. e / 2 ≤ length self.old.parts.nodes) cons.items }
+        requires outs_fit { length outs.items < 2 ^ 32 }
+        requires bads_fit { length bads.items < 2 ^ 32 }
+        requires cons_fit { length cons.items < 2 ^ 32 }
+        ensures { self.new ≡ record self.old { nexts = nexts.items; outs = outs.items; bads = bads.items; cons = cons.items } }
+    {
+        self.nexts = nexts;
+        self.outs = outs;
+        self.bads = bads;
+        self.cons = cons;
+    }
+
+    /// The circuit that an AIGER file says: inputs and latches in order, and then the gates by level and, within
+    /// a level, in order. The level of a gate is one more than the greater level of its operands, and that of
+    /// inputs, latches and constants is 0. A variable that nothing defines is false. There must be no cycle of
+    /// gates, no variable that two gates define, and none above `max`.
+    pub fn from_aig(alloc: Global, aig: &Aig) -> Result<Circuit, AllocError>
+        requires room { length aig.now.inputs + length aig.now.latches + length aig.now.gates < 2 ^ 31 }
+        requires outs { length aig.now.outs < 2 ^ 32 }
+        requires bads { length aig.now.bads < 2 ^ 32 }
+        requires cons { length aig.now.cons < 2 ^ 32 }
+        requires within { (k : ℕ) → k < length aig.now.gates → var_at aig.now.gates k ≤ aig.now.max }
+        requires apart { AreApart aig.now.gates }
+        requires acyclic { IsAcyclic aig.now.gates }
+        ensures { IfOk result (λ c. (level : ℕ → ℕ) × AreLevels aig.now.gates level × ((ranks : List (ℕ × ℕ)) × IsByLevel aig.now.gates level ranks × (c ≡ system_of aig.now ranks))) }
+    {
+        let gates = aig.gates.as_slice();
+        let ranks = gates_by_level(alloc, aig.max, gates)?;
+        let mut importer = Importer::new(alloc, aig.max)?;
+        importer.inputs(aig.inputs.as_slice())?;
+        importer.latches(aig.latches.as_slice())?;
+        importer.gates(gates, &ranks)?;
+        importer.finish(alloc, aig)
     }
 }

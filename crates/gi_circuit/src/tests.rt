@@ -84,7 +84,11 @@ fn gates_are_folded_found_and_evaluated(rt: HostRuntime) -> Result<(), Fail> {
         assert_eq!(rt; and(&mut c, a, b)?, Some(made), "at {a} and {b}");
     }
     for (e, expected) in [(6, true), (7, false), (0, false), (1, true)] {
-        assert_eq!(rt; value(rt.alloc(), &c, &[true, true], &[], e)?, Some(expected), "at {e}");
+        assert_eq!(rt;
+            value(rt.alloc(), &c, &[true, true], &[], e)?,
+            Some(expected),
+            "at {e}"
+        );
     }
     assert_eq!(rt; latch(&mut c, Reset::Zero)?, Some(8));
     assert_eq!(rt; add(&mut c, 6, 7, 8)?, true);

@@ -1,0 +1,11 @@
+use Rattle.std.proofs.Common.{◌≡◌, ◌+◌, ◌<◌, ◌≤◌, ◌^◌, ℕ, length, take, ap, ◌∙◌, arith}
+use Rattle.std.proofs.lemmas.List.{length-take-le}
+use Rattle.gi_circuit.specs.Import.{Imported}
+use Rattle.gi_circuit.proofs.Importing.{gate_nodes}
+use Rattle.gi_circuit.proofs.import.Importer.gates.Goals as goal
+
+pub gate-requires : goal.gate-requires
+gate-requires c =
+    let n = ap (λ (m : Imported). length m.system.parts.nodes) c.loop-rank.invariant in
+    let l = length-take-le c.loop-rank.rank-index c.args.ranks.now c.loop-rank.auto.rank-index-end in
+    omega (arith, n, l, gate_nodes c.args.gates.now (take c.loop-rank.rank-index c.args.ranks.now) c.args.self.now, c.loop-rank-test.true, c.requires.room)
