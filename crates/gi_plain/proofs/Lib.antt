@@ -1,3 +1,16 @@
 pub mod Table
 pub mod Levels
 pub mod Counting
+pub mod Deciding
+pub mod Trying
+pub mod Saturating
+pub mod Leaving
+pub mod Fresh
+pub mod Pairs
+pub mod Telling
+pub mod Causes
+pub mod Explaining
+pub mod Working
+pub mod Finding
+pub mod Following
+pub mod Allowing

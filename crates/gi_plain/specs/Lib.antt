@@ -1,3 +1,6 @@
 pub mod Found
 pub mod View
 pub mod Lacking
+pub mod Search
+pub mod Ends
+pub mod Waits

@@ -18,7 +18,7 @@ use std::mem;
 /// The machine over plain lists.
 #[derive(Drop)]
 pub struct Plain {
-    alloc: Global,
+    pub(crate) alloc: Global,
     pub(crate) store: Store,
     pub(crate) known: Vec<Clause>,
     pub(crate) pending: Lits,
@@ -55,7 +55,7 @@ impl Plain {
     }
 
     /// After an edit an ended solve is none.
-    fn forget(&mut self)
+    pub(crate) fn forget(&mut self)
         ensures { self.new ≡ record self.old { solve = edited self.old.solve } }
     {
         if let Task::Ended(_, _) = &self.task {

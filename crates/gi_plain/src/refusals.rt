@@ -1,8 +1,8 @@
-ghost use Rattle.std.specs.Prelude.{◌≡◌, ◌+◌, ◌&&◌, nat_lt, not};
+ghost use Rattle.std.specs.Prelude.{◌≡◌, ◌+◌, ◌&&◌, ◌↔◌, nat_lt, not, IsTrue};
 ghost use Rattle.std.specs.List.{list_any};
 ghost use Rattle.gi_lit.specs.Problem.{has};
 ghost use Rattle.gi_model.specs.Limits.{most_pending};
-ghost use Rattle.gi_model.specs.State.{listed_in};
+ghost use Rattle.gi_model.specs.State.{listed_in, alive};
 ghost use Rattle.gi_model.specs.Refusals.{refuses, is_over, admits, while_running, while_paused, is_scoped, has_bad_lit, is_not_guard, is_held, is_beyond, lacks_scope, is_unlisted, needs_solve, is_none_yet, lacks_model, lacks_clause, is_work, has_model};
 ghost use Rattle.gi_plain.specs.Lacking.{lacking};
 
@@ -61,7 +61,7 @@ fn needs_solve(call: &Call) -> bool
     }
 }
 
-fn is_work(call: &Call) -> bool
+pub fn is_work(call: &Call) -> bool
     ensures { result ≡ is_work call.now }
 {
     match call {
@@ -81,6 +81,17 @@ fn too_many(a: usize, b: usize) -> bool
 }
 
 impl Plain {
+    /// Whether it is neither shut nor dead.
+    pub(crate) fn is_alive(&self) -> bool
+        ensures { IsTrue result ↔ (self.now.life ≡ alive) }
+    {
+        match self.flag {
+            Flag::Alive => true,
+            Flag::Shut => false,
+            Flag::Dead => false,
+        }
+    }
+
     fn is_over(&self) -> bool
         ensures { result ≡ is_over self.now.life }
     {

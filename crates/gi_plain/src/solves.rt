@@ -1,11 +1,11 @@
-ghost use Rattle.std.specs.Prelude.{◌≡◌, IfOk};
-ghost use Rattle.gi_model.specs.Effects.{pausing, resuming, stopping};
+ghost use Rattle.std.specs.Prelude.{◌≡◌, ◌+◌, ◌≤◌, IfOk};
+ghost use Rattle.gi_model.specs.Effects.{pausing, resuming, stopping, sliced};
 ghost use Rattle.gi_model.specs.Replies.{status_of, verdict_status, waited};
-ghost use Rattle.gi_plain.specs.View.{solve_of};
+ghost use Rattle.gi_plain.specs.View.{run_of, solve_of};
 
-use gi_lit::Lits;
-use gi_model::{Cause, Refusal, Reply, Status, Verdict, Why};
-use std::alloc::AllocError;
+use gi_lit::{Assign, Lits};
+use gi_model::{Cause, Now, Refusal, Reply, Status, Verdict, Why};
+use std::alloc::{AllocError, Global};
 
 /// A solve under way.
 #[derive(Drop)]
@@ -69,7 +69,8 @@ pub fn stop(task: Task) -> Task
     }
 }
 
-fn verdict_status(verdict: &Verdict) -> Status
+/// How a solve stands that ended so.
+pub fn verdict_status(verdict: &Verdict) -> Status
     ensures { result ≡ verdict_status verdict.now }
 {
     match verdict {
@@ -111,5 +112,39 @@ pub fn wait(task: &Task) -> Result<Reply, AllocError>
             failed: failed.copy()?,
         }),
         _ => Ok(status(task)),
+    }
+}
+
+/// The same end again.
+fn copy_verdict(alloc: Global, verdict: &Verdict) -> Result<Verdict, AllocError>
+    ensures { IfOk result (λ v. v ≡ verdict.now) }
+{
+    match verdict {
+        Verdict::Sat(values) => {
+            let _count = values.len();
+            let copied = Vec::from_slice(alloc, values.as_slice())?;
+            Ok(Verdict::Sat(Assign::from_vec(copied)))
+        }
+        Verdict::Unsat(failed) => Ok(Verdict::Unsat(failed.copy()?)),
+        Verdict::Unknown(cause) => Ok(Verdict::Unknown(*cause)),
+    }
+}
+
+/// What a slice with so many news leaves of its solve.
+pub fn slice(alloc: Global, job: Job, count: usize, now: &Now) -> Result<Task, AllocError>
+    requires { job.spent + count ≤ job.budget }
+    ensures { IfOk result (λ t. solve_of t ≡ sliced (run_of job) count now.now) }
+{
+    match now {
+        Now::Live => {
+            let budget = job.budget;
+            Ok(Task::Running(Job {
+                serial: job.serial,
+                assumed: job.assumed,
+                budget,
+                spent: job.spent + count as u32,
+            }))
+        }
+        Now::Ended(verdict) => Ok(Task::Ended(job.serial, copy_verdict(alloc, verdict)?)),
     }
 }

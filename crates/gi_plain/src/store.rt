@@ -1,11 +1,12 @@
-ghost use Rattle.std.specs.Prelude.{◌≡◌, ◌+◌, ◌<◌, ◌≤◌, ◌==◌, ◌&&◌, ◌||◌, not, nat_le, nat_lt, length, false, List, ℕ, IfOk, OnOk, IfSome, IfNone, sum_by};
-ghost use Rattle.std.specs.List.{list_any};
-ghost use Rattle.gi_lit.specs.Problem.{Pair, lit_count, has, is_problem_var, is_usable, is_guard_lit, empty_problem, grown, with_clause, with_pair, with_guard, next_guard, without_guard, without_pairs};
+ghost use Rattle.std.specs.Prelude.{◌≡◌, ◌+◌, ◌/◌, ◌<◌, ◌≤◌, ◌==◌, ◌&&◌, ◌||◌, not, nat_le, nat_lt, length, false, List, ℕ, IfOk, OnOk, IfSome, IfNone, sum_by, [], ◌∷◌, ◌++◌};
+ghost use Rattle.std.specs.List.{list_any, list_all};
+ghost use Rattle.gi_lit.specs.Problem.{Pair, lit_count, has, is_problem_var, is_usable, is_guard_lit, empty_problem, grown, with_clause, with_pair, with_guard, next_guard, without_guard, without_pairs, guarded, full, force, forced};
 ghost use Rattle.gi_model.specs.Limits.{most_vars, most_lits};
 ghost use Rattle.gi_model.specs.Refusals.{some_unusable, is_full};
+ghost use Rattle.gi_model.specs.Replies.{model_from, model_of};
 
-use crate::lists::{has_var, without};
-use gi_lit::{Clause, Lit, MAX_VAR, Var, top_variable};
+use crate::lists::{append_copies, has_lit, has_var, without};
+use gi_lit::{Clause, Lit, Lits, MAX_VAR, Var, top_variable};
 use std::alloc::{AllocError, Global};
 use std::marker::Model;
 use std::mem;
@@ -83,6 +84,27 @@ fn without_pairs(alloc: Global, pairs: Vec<Guarded>, g: Var) -> Result<Vec<Guard
         .collect(alloc)
 }
 
+impl Guarded {
+    /// The pair as one clause: its guard is false, or its clause holds.
+    fn whole(&self) -> Result<Clause, AllocError>
+        ensures { IfOk result (λ c. c ≡ guarded self.now) }
+    {
+        let mut clause = self.clause.copy()?;
+        clause.push(self.guard.negative())?;
+        Ok(clause)
+    }
+
+    /// Puts its clause behind those of the list where its guard is given.
+    fn append_forced(&self, to: &mut Vec<Clause>, given: &[Lit]) -> Result<(), AllocError>
+        ensures { OnOk result (to.new.items ≡ to.old.items ++ forced given.now (self.now ∷ [])) }
+    {
+        if has_lit(given, self.guard.positive()) {
+            to.push(self.clause.copy()?)?;
+        }
+        Ok(())
+    }
+}
+
 impl Store {
     pub fn new(alloc: Global) -> Store
         ensures { result ≡ empty_problem }
@@ -101,6 +123,16 @@ impl Store {
         ensures { result ≡ self.now.vars }
     {
         self.vars
+    }
+
+    /// The guard that comes next: the one freed last, else a new variable.
+    pub fn next_guard(&self) -> u32
+        ensures { result ≡ next_guard self.now }
+    {
+        match self.freed.first() {
+            Some(g) => g.index(),
+            None => self.vars + 1,
+        }
     }
 
     pub fn is_problem_var(&self, v: Var) -> bool
@@ -174,6 +206,54 @@ impl Store {
         self.freed.len() == 0 && self.vars >= MAX_VAR
     }
 
+    /// What a model tells of the variable at this place, from 0: its literal, if it's a problem variable.
+    #[tactic(auto, unfolding(gi_model::specs::Replies::model_from))]
+    fn told(&self, place: usize, value: bool) -> Option<Lit>
+        ensures some { IfSome result (λ l. model_from self.now (place + 1) (value ∷ []) ≡ l ∷ []) }
+        ensures none { IfNone result (model_from self.now (place + 1) (value ∷ []) ≡ []) }
+    {
+        if place >= self.vars as usize {
+            return None;
+        }
+        match Var::new(place as u32 + 1) {
+            Some(v) => {
+                if !self.is_problem_var(v) {
+                    return None;
+                }
+                if value {
+                    Some(v.positive())
+                } else {
+                    Some(v.negative())
+                }
+            }
+            None => unreachable!(),
+        }
+    }
+
+    /// Puts what a model tells of the variable at this place behind the literals of the list.
+    fn append_told(&self, to: &mut Lits, place: usize, value: bool) -> Result<(), AllocError>
+        ensures { OnOk result (to.new ≡ to.old ++ model_from self.now (place + 1) (value ∷ [])) }
+    {
+        match self.told(place, value) {
+            Some(l) => {
+                to.push(l)?;
+                Ok(())
+            }
+            None => Ok(()),
+        }
+    }
+
+    /// The true literal of each problem variable, rising.
+    pub fn model(&self, alloc: Global, values: &[bool]) -> Result<Lits, AllocError>
+        ensures { IfOk result (λ ls. ls ≡ model_of self.now values.now) }
+    {
+        let mut lits = Lits::new(alloc);
+        for i in 0..values.len() {
+            self.append_told(&mut lits, i, values[i])?;
+        }
+        Ok(lits)
+    }
+
     pub fn grow(&mut self, n: u32)
         requires { n ≤ most_vars }
         ensures { self.new ≡ grown n self.old }
@@ -201,6 +281,44 @@ impl Store {
         self.pairs.push(pair)?;
         self.grow(top_variable(clause.as_slice()));
         Ok(())
+    }
+
+    /// Its clauses, and each pair as one clause.
+    pub fn full(&self) -> Result<Vec<Clause>, AllocError>
+        ensures { IfOk result (λ cs. cs.items ≡ full self.now) }
+    {
+        let mut all = Vec::new(self.alloc);
+        append_copies(&mut all, self.plain.as_slice())?;
+        for pair in &self.pairs {
+            all.push(pair.whole()?)?;
+        }
+        Ok(all)
+    }
+
+    /// The clauses in force where the literals are given.
+    pub fn force(&self, given: &[Lit]) -> Result<Vec<Clause>, AllocError>
+        ensures { IfOk result (λ cs. cs.items ≡ force self.now given.now) }
+    {
+        let mut all = Vec::new(self.alloc);
+        append_copies(&mut all, self.plain.as_slice())?;
+        for pair in &self.pairs {
+            pair.append_forced(&mut all, given)?;
+        }
+        Ok(all)
+    }
+
+    /// Whether each literal is of a problem variable.
+    pub fn are_plain(&self, lits: &[Lit]) -> bool
+        ensures { result ≡ list_all (λ l. is_problem_var self.now (l / 2)) lits.now }
+    {
+        lits.iter().all(|l| self.is_problem_var(l.var()))
+    }
+
+    /// Whether each literal is of a problem variable or an active guard.
+    pub fn are_live(&self, lits: &[Lit]) -> bool
+        ensures { result ≡ list_all (λ l. is_problem_var self.now (l / 2) || has self.now.active (l / 2)) lits.now }
+    {
+        lits.iter().all(|l| self.is_problem_var(l.var()) || self.is_active(l.var()))
     }
 
     /// Hands out the guard that was freed last, else a new variable.

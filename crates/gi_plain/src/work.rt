@@ -1,0 +1,167 @@
+ghost use Rattle.std.specs.Prelude.{◌≡◌, ◌+◌, ◌++◌, ◌<◌, ◌↔◌, length, IsTrue, IfOk};
+ghost use Rattle.gi_model.specs.State.{live_run};
+ghost use Rattle.gi_model.specs.Work.{EndsNonempty, IsSpent, IsModel, IsFailing, EndsWork, Works, AnswersWork};
+ghost use Rattle.gi_plain.specs.View.{run_of};
+ghost use Rattle.gi_plain.specs.Ends.{EndsWith};
+
+use crate::closure::conflicts;
+use crate::lists::{is_sublist, joined};
+use crate::machine::Plain;
+use crate::replies::is_idle;
+use crate::solves::{Job, Task};
+use crate::truth::{fails, is_model};
+use gi_lit::{Assign, Clause, Lits};
+use gi_model::{Cause, Now, Reply, Verdict};
+use std::alloc::AllocError;
+
+/// Whether there is a last clause, and it isn't empty.
+fn ends_nonempty(news: &[Clause]) -> bool
+    ensures { IsTrue result ↔ EndsNonempty news.now }
+{
+    if news.len() == 0 {
+        return false;
+    }
+    news[news.len() - 1].len() > 0
+}
+
+/// How many clauses the solve has learnt with these news.
+fn spent_with(job: &Job, news: &[Clause]) -> u128
+    ensures { result ≡ job.now.spent + length news.now }
+{
+    job.spent as u128 + news.len() as u128
+}
+
+/// Whether the budget is spent, and the last clause isn't empty.
+fn is_spent(job: &Job, news: &[Clause]) -> bool
+    ensures { IsTrue result ↔ IsSpent (run_of job.now) news.now }
+{
+    if spent_with(job, news) != job.budget as u128 {
+        return false;
+    }
+    ends_nonempty(news)
+}
+
+/// Whether the end is unknown for that cause.
+fn is_unknown(verdict: &Verdict, cause: Cause) -> bool
+    ensures { IsTrue result ↔ (verdict.now ≡ Verdict.Unknown cause) }
+{
+    match verdict {
+        Verdict::Unknown(other) => *other == cause,
+        Verdict::Sat(_) => false,
+        Verdict::Unsat(_) => false,
+    }
+}
+
+/// Whether a slice ends its solve, unknown for that cause.
+fn ends_unknown(now: &Now, cause: Cause) -> bool
+    ensures { IsTrue result ↔ (now.now ≡ Now.Ended (Verdict.Unknown cause)) }
+{
+    match now {
+        Now::Ended(verdict) => is_unknown(verdict, cause),
+        Now::Live => false,
+    }
+}
+
+impl Plain {
+    /// Whether the values satisfy the clauses in force and the assumptions.
+    fn may_satisfy(&self, assumed: &Lits, values: &Assign) -> Result<bool, AllocError>
+        ensures { IfOk result (λ b. IsTrue b ↔ IsModel self.now assumed.now values.now) }
+    {
+        if values.len() != self.store.vars() {
+            return Ok(false);
+        }
+        let forced = self.store.force(assumed.as_slice())?;
+        Ok(is_model(values.as_slice(), forced.as_slice(), assumed.as_slice()))
+    }
+
+    /// Whether these are some of the assumptions, fail, and unit closure over all that is known finds it.
+    fn may_fail(&self, assumed: &Lits, known: &[Clause], failed: &Lits) -> Result<bool, AllocError>
+        ensures { IfOk result (λ b. IsTrue b ↔ IsFailing self.now assumed.now known.now failed.now) }
+    {
+        let some = failed.as_slice();
+        if !is_sublist(some, assumed.as_slice()) {
+            return Ok(false);
+        }
+        let forced = self.store.force(some)?;
+        let failing = fails(self.alloc, forced.as_slice(), some)?;
+        if !failing {
+            return Ok(false);
+        }
+        let whole = self.store.full()?;
+        let all = joined(self.alloc, whole.as_slice(), known)?;
+        conflicts(self.alloc, all.as_slice(), some)
+    }
+
+    /// Whether a slice that neither was stopped nor spent its budget may end so.
+    fn may_end(&self, job: &Job, news: &[Clause], verdict: &Verdict) -> Result<bool, AllocError>
+        ensures { IfOk result (λ b. IsTrue b ↔ EndsWith self.now (run_of job.now) news.now verdict.now) }
+    {
+        match verdict {
+            Verdict::Sat(values) => self.may_satisfy(&job.assumed, values),
+            Verdict::Unsat(failed) => {
+                let known = joined(self.alloc, self.known.as_slice(), news)?;
+                self.may_fail(&job.assumed, known.as_slice(), failed)
+            }
+            Verdict::Unknown(_) => Ok(false),
+        }
+    }
+
+    /// Whether a slice may leave its solve so.
+    fn may_leave(
+        &self,
+        job: &Job,
+        mark: u64,
+        news: &[Clause],
+        now: &Now,
+    ) -> Result<bool, AllocError>
+        ensures { IfOk result (λ b. IsTrue b ↔ EndsWork self.now (run_of job.now) mark news.now now.now) }
+    {
+        if mark >= job.serial {
+            return Ok(ends_unknown(now, Cause::Stopped(mark)));
+        }
+        if is_spent(job, news) {
+            return Ok(ends_unknown(now, Cause::Budget(job.budget)));
+        }
+        match now {
+            Now::Live => Ok(ends_nonempty(news)),
+            Now::Ended(verdict) => self.may_end(job, news, verdict),
+        }
+    }
+
+    /// Whether a slice may learn the news and leave its solve so.
+    fn may_work(&self, job: &Job, mark: u64, news: &[Clause], now: &Now) -> Result<bool, AllocError>
+        ensures { IfOk result (λ b. IsTrue b ↔ Works self.now (run_of job.now) mark news.now now.now) }
+    {
+        if news.len() > 1024 {
+            return Ok(false);
+        }
+        if spent_with(job, news) > job.budget as u128 {
+            return Ok(false);
+        }
+        let fresh = self
+            .store
+            .are_fresh(self.alloc, self.known.as_slice(), news)?;
+        if !fresh {
+            return Ok(false);
+        }
+        self.may_leave(job, mark, news, now)
+    }
+
+    /// Whether a slice of work may be answered so.
+    pub fn answers_work(&self, mark: u64, reply: &Reply) -> Result<bool, AllocError>
+        ensures { IfOk result (λ b. IsTrue b ↔ AnswersWork self.now (live_run self.now) mark reply.now) }
+    {
+        if !self.is_alive() {
+            return Ok(is_idle(reply));
+        }
+        match &self.task {
+            Task::Running(job) => match reply {
+                Reply::Worked { news, now } => self.may_work(job, mark, news.as_slice(), now),
+                _ => Ok(false),
+            },
+            Task::Paused(_) => Ok(is_idle(reply)),
+            Task::Ended(_, _) => Ok(is_idle(reply)),
+            Task::Idle => Ok(is_idle(reply)),
+        }
+    }
+}
