@@ -1,6 +1,5 @@
-ghost use Rattle.std.specs.Prelude.{◌≡◌, ◌≤◌, ◌/◌, ℕ, OnOk, IfOk};
-ghost use Rattle.gi_store.specs.Held.{Held};
-ghost use Rattle.gi_prop.specs.Attached.{Attached, Goes, IsAttached};
+ghost use Rattle.std.specs.Prelude.{◌≡◌, ◌≤◌, ◌/◌, OnOk, IfOk};
+ghost use Rattle.gi_prop.specs.Attached.{Goes, IsAttached};
 
 use crate::laws::{added_literals_are_derived, edits_keep_goes};
 use crate::{Prop, Trail};
@@ -25,8 +24,6 @@ fn attach(store: &mut Store, trail: &Trail, prop: &mut Prop, clause: &[Lit]) -> 
     requires { Goes prop.old store.old trail.now }
     ensures goes { OnOk result (Goes prop.new store.new trail.now) }
     ensures attached { IfOk result (λ key. IsAttached prop.new key) }
-    ensures fresh { IfOk result (λ key. ¬ IsAttached prop.old key) }
-    ensures kept { IfOk result (λ key. (k : ℕ) → IsAttached prop.old k → IsAttached prop.new k) }
 {
     if !store.is_plain(clause) {
         return Err("variables of the problem".into());
@@ -40,9 +37,7 @@ fn attach(store: &mut Store, trail: &Trail, prop: &mut Prop, clause: &[Lit]) -> 
 }
 
 /// Decides a literal of the trail.
-fn decide(trail: &mut Trail, number: i32) -> Result<(), Fail>
-    ensures { (p : Attached) (s : Held) → Goes p s trail.old → Goes p s trail.new }
-{
+fn decide(trail: &mut Trail, number: i32) -> Result<(), Fail> {
     let l = Lit::from_dimacs(number).ok_or("a literal")?;
     if l.var().index() as usize > trail.vars() {
         return Err("a variable of the trail".into());
@@ -253,77 +248,5 @@ fn propagation_is_the_unit_closure(rt: HostRuntime) -> Result<(), Fail> {
         }
     }
     assert!(rt; has_conflict && has_closure);
-    Ok(())
-}
-
-/// Whether these are the two literals, in either order.
-fn is_pair(found: Option<(Lit, Lit)>, a: i32, b: i32) -> bool {
-    match found {
-        None => false,
-        Some((x, y)) => {
-            let (x, y) = (x.to_dimacs(), y.to_dimacs());
-            x == a && y == b || x == b && y == a
-        }
-    }
-}
-
-#[test]
-fn only_the_clauses_that_are_attached_are_watched(rt: HostRuntime) -> Result<(), Fail> {
-    let mut store = Store::new(rt.alloc());
-    let mut trail = Trail::new(rt.alloc());
-    let mut prop = Prop::new(rt.alloc());
-    store.grow(3)?;
-    trail.grow(3)?;
-    let one_two_three = lits(rt.alloc(), &[1, 2, 3])?;
-    let not_one_two = lits(rt.alloc(), &[-1, 2])?;
-    let not_two_three = lits(rt.alloc(), &[-2, 3])?;
-    let _ = attach(&mut store, &trail, &mut prop, one_two_three.as_slice())?;
-    let second = attach(&mut store, &trail, &mut prop, not_one_two.as_slice())?;
-    let third = attach(&mut store, &trail, &mut prop, not_two_three.as_slice())?;
-    prop.detach(second);
-    decide(&mut trail, 1)?;
-    let first_conflict = prop.propagate(&store, &mut trail);
-    assert_eq!(rt; first_conflict, None);
-    assert!(rt; is_trail(&trail, &[1]));
-    decide(&mut trail, 2)?;
-    let second_conflict = prop.propagate(&store, &mut trail);
-    assert_eq!(rt; second_conflict, None);
-    assert!(rt; is_trail(&trail, &[1, 2, 3]));
-    let found = prop.watches(third);
-    assert!(rt; is_pair(found, -2, 3));
-    Ok(())
-}
-
-/// Attaches `-i i+1` for i rising to the half and then falling from the end.
-fn attach_chain(
-    alloc: Global,
-    store: &mut Store,
-    trail: &Trail,
-    prop: &mut Prop,
-) -> Result<(), Fail>
-    requires { Goes prop.old store.old trail.now }
-    ensures { OnOk result (Goes prop.new store.new trail.now) }
-{
-    for i in 1..400_000_i32 {
-        let at = if i < 200_000 { i } else { 599_999 - i };
-        let clause = lits(alloc, &[-at, at + 1])?;
-        let _ = attach(store, trail, prop, clause.as_slice())?;
-    }
-    Ok(())
-}
-
-#[test]
-fn a_long_chain_is_followed(rt: HostRuntime) -> Result<(), Fail> {
-    let mut store = Store::new(rt.alloc());
-    let mut trail = Trail::new(rt.alloc());
-    let mut prop = Prop::new(rt.alloc());
-    store.grow(400_000)?;
-    trail.grow(400_000)?;
-    let one = lits(rt.alloc(), &[1])?;
-    let _ = attach(&mut store, &trail, &mut prop, one.as_slice())?;
-    attach_chain(rt.alloc(), &mut store, &trail, &mut prop)?;
-    assert_eq!(rt; prop.propagate(&store, &mut trail), None);
-    assert_eq!(rt; trail.lits().len(), 400_000);
-    assert!(rt; trail.lits().iter().all(|l| !l.is_negative()));
     Ok(())
 }

@@ -30,8 +30,3 @@ pub attach-requires-clause-within : goal.attach-requires-clause-within
 attach-requires-clause-within c = λ clause held. subst (IsWithin c.args.trail.now.vars) (c.clause.ensures.only clause held) (λ k d kl.
     let w = c.is_within.ensures.0 c.if-not-is_within.false k d kl in
     (w.0, omega (arith, w.1, c.if-vars.false, c.vars.ensures.value, c.vars-2.ensures)))
-
-pub returns-clause-fresh : goal.returns-clause-fresh
-returns-clause-fresh c = λ h.
-    let g = goes_clause c.args.prop.now c.args.store.now c.args.trail.now c.requires c.in_ok-key.key h in
-    c.in_ok-key.ensures.fresh (held_live c.args.store.now c.in_ok-key.key g.clause g.held)
