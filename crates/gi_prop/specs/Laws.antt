@@ -4,6 +4,7 @@ use Rattle.gi_lit.specs.Closure.{IsDerivation}
 use Rattle.gi_store.specs.Held.{Held, Holds, IsLive, Keeps}
 use Rattle.gi_prop.specs.Assigned.{Assigned}
 use Rattle.gi_prop.specs.Attached.{Attached, IsAttached, HasClause, Goes, AddsForced}
+use Rattle.gi_prop.specs.Watched.{IsKeyed}
 
 -- an edit of the store after which each attached key is in use
 abbrev pub EditsKeepGoes : Type 0
@@ -12,6 +13,11 @@ EditsKeepGoes = (p : Attached) (old new : Held) (t : Assigned) → Goes p old t 
 -- each attached key has a clause
 abbrev pub AttachedClausesAreHeld : Type 0
 AttachedClausesAreHeld = (p : Attached) (s : Held) (t : Assigned) → Goes p s t → (k : ℕ) → IsAttached p k → HasClause s t.vars k
+
+-- the nodes of each attached key are placed: in the lists of two different literals of its clause, each guarded in the part of the trail that was
+-- looked at, or in a list that is no literal's
+abbrev pub AttachedClausesAreWatched : Type 0
+AttachedClausesAreWatched = (p : Attached) (s : Held) (t : Assigned) → Goes p s t → (k : ℕ) → IsAttached p k → IsKeyed p.first p.second s t t.head t.head k
 
 -- what propagation adds, behind what was there, is a derivation from the attached clauses
 abbrev pub AddedLiteralsAreDerived : Type 0

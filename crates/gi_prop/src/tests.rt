@@ -1,252 +1,99 @@
-ghost use Rattle.std.specs.Prelude.{◌≡◌, ◌≤◌, ◌/◌, OnOk, IfOk};
-ghost use Rattle.gi_prop.specs.Attached.{Goes, IsAttached};
+ghost use Rattle.gi_prop.specs.Attached.{HasSameKeys};
+
+mod closures;
+mod levels;
+mod parts;
 
 use crate::laws::{added_literals_are_derived, edits_keep_goes};
-use crate::{Prop, Trail};
-use gi_lit::{Lit, Lits};
-use gi_store::{Key, Store};
-use std::alloc::{AllocError, Global};
+use gi_lit::{Lit, Var};
+use levels::{is_trail, says};
+use parts::Parts;
 use std::test::Fail;
 
-/// The literals that DIMACS writes as these numbers.
-fn lits(alloc: Global, numbers: &[i32]) -> Result<Lits, AllocError> {
-    let mut clause = Lits::new(alloc);
-    for n in numbers {
-        if let Some(l) = Lit::from_dimacs(*n) {
-            clause.push(l)?;
-        }
-    }
-    Ok(clause)
-}
-
-/// Stores a plain clause and attaches it.
-fn attach(store: &mut Store, trail: &Trail, prop: &mut Prop, clause: &[Lit]) -> Result<Key, Fail>
-    requires { Goes prop.old store.old trail.now }
-    ensures goes { OnOk result (Goes prop.new store.new trail.now) }
-    ensures attached { IfOk result (λ key. IsAttached prop.new key) }
+/// Whether propagation ends without a conflict, and with this trail.
+fn closes(parts: &mut Parts, numbers: &[i32]) -> bool
+    ensures { HasSameKeys parts.old parts.new }
 {
-    if !store.is_plain(clause) {
-        return Err("variables of the problem".into());
-    }
-    let key = store.add(clause)?;
-    if store.vars() as usize > trail.vars() || !store.is_within(store.clause(key)) {
-        return Err("variables of the trail".into());
-    }
-    prop.attach(store, trail, key)?;
-    Ok(key)
-}
-
-/// Decides a literal of the trail.
-fn decide(trail: &mut Trail, number: i32) -> Result<(), Fail> {
-    let l = Lit::from_dimacs(number).ok_or("a literal")?;
-    if l.var().index() as usize > trail.vars() {
-        return Err("a variable of the trail".into());
-    }
-    match trail.value(l) {
-        None => trail.assign(l, None),
-        Some(_) => return Err("an unassigned literal".into()),
-    }
-    Ok(())
-}
-
-fn push_level(trail: &mut Trail) -> Result<(), Fail> {
-    if trail.level() == u32::MAX {
-        return Err("a level below the last".into());
-    }
-    Ok(trail.push_level()?)
-}
-
-fn cancel_to(trail: &mut Trail, level: u32) -> Result<(), Fail> {
-    if level > trail.level() {
-        return Err("a level up to the present one".into());
-    }
-    trail.cancel_to(level);
-    Ok(())
-}
-
-fn is_trail(trail: &Trail, numbers: &[i32]) -> bool {
-    trail
-        .lits()
-        .iter()
-        .map(|l| l.to_dimacs())
-        .eq(numbers.iter().copied())
-}
-
-/// Its value, and the place, the reason and the level of its variable.
-fn said(
-    trail: &Trail,
-    number: i32,
-) -> Result<(Option<bool>, Option<usize>, Option<Key>, Option<u32>), Fail> {
-    let l = Lit::from_dimacs(number).ok_or("a literal")?;
-    if l.var().index() as usize > trail.vars() {
-        return Err("a variable of the trail".into());
-    }
-    Ok((
-        trail.value(l),
-        trail.place_of(l.var()),
-        trail.reason(l.var()),
-        trail.level_of(l.var()),
-    ))
+    parts.propagate().is_none() && is_trail(parts.trail(), numbers)
 }
 
 #[test]
 fn units_are_propagated(rt: HostRuntime) -> Result<(), Fail> {
-    let mut store = Store::new(rt.alloc());
-    let mut trail = Trail::new(rt.alloc());
-    let mut prop = Prop::new(rt.alloc());
-    store.grow(2)?;
-    trail.grow(2)?;
-    let one_two = lits(rt.alloc(), &[1, 2])?;
-    let not_one = lits(rt.alloc(), &[-1])?;
-    let first = attach(&mut store, &trail, &mut prop, one_two.as_slice())?;
-    let second = attach(&mut store, &trail, &mut prop, not_one.as_slice())?;
-    assert_eq!(rt; prop.propagate(&store, &mut trail), None);
-    assert!(rt; is_trail(&trail, &[-1, 2]));
-    assert_eq!(rt;
-        said(&trail, 1)?,
-        (Some(false), Some(0), Some(second), Some(0))
-    );
-    assert_eq!(rt;
-        said(&trail, 2)?,
-        (Some(true), Some(1), Some(first), Some(0))
-    );
-    trail.clear();
-    assert_eq!(rt; said(&trail, 1)?, (None, None, None, None));
-    prop.detach(second);
-    assert_eq!(rt; prop.propagate(&store, &mut trail), None);
-    assert!(rt; is_trail(&trail, &[]));
+    let mut parts = Parts::new(rt.alloc(), 2)?;
+    let first = parts.attach_numbers(rt.alloc(), &[1, 2])?;
+    let second = parts.attach_numbers(rt.alloc(), &[-1])?;
+    let closes = closes(&mut parts, &[-1, 2]);
+    assert!(rt; closes);
+    assert!(rt; says(parts.trail(), 1, Some(false), Some((0, Some(second), 0))));
+    assert!(rt; says(parts.trail(), 2, Some(true), Some((1, Some(first), 0))));
+    Ok(())
+}
+
+#[test]
+fn a_detached_clause_forces_nothing(rt: HostRuntime) -> Result<(), Fail> {
+    let mut parts = Parts::new(rt.alloc(), 2)?;
+    let first = parts.attach_numbers(rt.alloc(), &[1])?;
+    let closes_first = closes(&mut parts, &[1]);
+    parts.clear();
+    parts.detach(first);
+    let closes_then = closes(&mut parts, &[]);
+    assert!(rt; closes_first && closes_then);
+    assert!(rt; says(parts.trail(), 1, None, None));
     added_literals_are_derived();
     edits_keep_goes();
     Ok(())
 }
 
-#[test]
-fn levels_come_and_go(rt: HostRuntime) -> Result<(), Fail> {
-    let mut trail = Trail::new(rt.alloc());
-    trail.grow(2)?;
-    assert_eq!(rt; trail.level(), 0);
-    push_level(&mut trail)?;
-    assert_eq!(rt; trail.level(), 1);
-    decide(&mut trail, -2)?;
-    push_level(&mut trail)?;
-    decide(&mut trail, 1)?;
-    if trail.level() < 2 {
-        return Err("two levels".into());
+/// Whether these are the two literals, in either order.
+fn is_pair(found: Option<(Lit, Lit)>, a: i32, b: i32) -> bool {
+    match found {
+        None => false,
+        Some((x, y)) => {
+            let (x, y) = (x.to_dimacs(), y.to_dimacs());
+            x == a && y == b || x == b && y == a
+        }
     }
-    assert_eq!(rt; trail.start_of(1), 1);
-    assert_eq!(rt; said(&trail, 1)?, (Some(true), Some(1), None, Some(2)));
-    assert_eq!(rt; said(&trail, 2)?, (Some(false), Some(0), None, Some(1)));
-    cancel_to(&mut trail, 2)?;
-    assert!(rt; is_trail(&trail, &[-2, 1]));
-    cancel_to(&mut trail, 1)?;
-    assert!(rt; is_trail(&trail, &[-2]));
-    assert_eq!(rt; said(&trail, 1)?, (None, None, None, None));
-    trail.grow(1)?;
-    assert_eq!(rt; trail.vars(), 2);
+}
+
+#[test]
+fn only_the_clauses_that_are_attached_are_watched(rt: HostRuntime) -> Result<(), Fail> {
+    let mut parts = Parts::new(rt.alloc(), 3)?;
+    parts.attach_numbers(rt.alloc(), &[1, 2, 3])?;
+    let second = parts.attach_numbers(rt.alloc(), &[-1, 2])?;
+    let third = parts.attach_numbers(rt.alloc(), &[-2, 3])?;
+    parts.detach(second);
+    parts.decide(1)?;
+    let closes_first = closes(&mut parts, &[1]);
+    parts.decide(2)?;
+    let closes_then = closes(&mut parts, &[1, 2, 3]);
+    assert!(rt; closes_first && closes_then);
+    assert!(rt; is_pair(parts.watches(third), -2, 3));
     Ok(())
 }
 
-/// The next of a row of numbers that look drawn.
-fn next(seed: u64) -> u64 {
-    seed.wrapping_mul(6_364_136_223_846_793_005)
-        .wrapping_add(1_442_695_040_888_963_407)
+/// The clause `-i i+1`.
+fn link(i: u32) -> Option<[Lit; 2]> {
+    let next = Var::new(i.checked_add(1)?)?;
+    Some([Var::new(i)?.negative(), next.positive()])
 }
 
-/// Up to three literals of the variables 1 to 5.
-fn drawn(alloc: Global, seed: &mut u64) -> Result<Lits, AllocError> {
-    let mut clause = Lits::new(alloc);
-    *seed = next(*seed);
-    for _ in 0..(*seed >> 33) % 3 + 1 {
-        *seed = next(*seed);
-        let code = ((*seed >> 33) % 10) as u32 + 2;
-        if let Some(l) = Lit::from_code(code) {
-            clause.push(l)?;
-        }
+/// Attaches `-i i+1` for i rising to the half of 400,000 and then falling from the end.
+fn attach_chain(parts: &mut Parts) -> Result<(), Fail> {
+    for i in 1..400_000_u32 {
+        let at = if i < 200_000 { i } else { 599_999 - i };
+        let link = link(at).ok_or("two variables")?;
+        parts.attach(&link)?;
     }
-    Ok(clause)
-}
-
-/// Draws 8 clauses and attaches them.
-fn attach_drawn(
-    alloc: Global,
-    seed: &mut u64,
-    store: &mut Store,
-    trail: &Trail,
-    prop: &mut Prop,
-) -> Result<Vec<Lits>, Fail>
-    requires { Goes prop.old store.old trail.now }
-    ensures { OnOk result (Goes prop.new store.new trail.now) }
-{
-    let mut clauses = Vec::new(alloc);
-    for _i in 0..8 {
-        let clause = drawn(alloc, seed)?;
-        let _ = attach(store, trail, prop, clause.as_slice())?;
-        clauses.push(clause)?;
-    }
-    Ok(clauses)
-}
-
-/// The different literals of a clause that aren't false.
-fn left(alloc: Global, clause: &[Lit], known: &[Lit]) -> Result<Vec<Lit>, AllocError> {
-    let mut free = Vec::new(alloc);
-    for l in clause {
-        if !known.contains(&l.not()) && !free.contains(l) {
-            free.push(*l)?;
-        }
-    }
-    Ok(free)
-}
-
-/// The unit closure of clauses over 5 variables, slowly: all that stands in it, or None where it conflicts.
-fn closure(alloc: Global, clauses: &[Lits]) -> Result<Option<Vec<Lit>>, AllocError> {
-    let mut known: Vec<Lit> = Vec::new(alloc);
-    for _ in 0..6 {
-        for clause in clauses {
-            let free = left(alloc, clause.as_slice(), known.as_slice())?;
-            match free.as_slice() {
-                [] => return Ok(None),
-                [l] => {
-                    if !known.contains(l) {
-                        known.push(*l)?;
-                    }
-                }
-                _ => {}
-            }
-        }
-    }
-    Ok(Some(known))
-}
-
-/// Whether the trail has just these literals.
-fn has_just(trail: &Trail, known: &[Lit]) -> bool {
-    trail.lits().len() == known.len() && trail.lits().iter().all(|l| known.contains(l))
+    Ok(())
 }
 
 #[test]
-fn propagation_is_the_unit_closure(rt: HostRuntime) -> Result<(), Fail> {
-    let mut seed = 1;
-    let mut has_conflict = false;
-    let mut has_closure = false;
-    for round in 0..60 {
-        let mut store = Store::new(rt.alloc());
-        let mut trail = Trail::new(rt.alloc());
-        let mut prop = Prop::new(rt.alloc());
-        store.grow(5)?;
-        trail.grow(5)?;
-        let clauses = attach_drawn(rt.alloc(), &mut seed, &mut store, &trail, &mut prop)?;
-        let conflict = prop.propagate(&store, &mut trail);
-        match closure(rt.alloc(), clauses.as_slice())? {
-            None => {
-                assert!(rt; conflict.is_some(), "at {round}");
-                has_conflict = true;
-            }
-            Some(known) => {
-                assert!(rt; conflict.is_none(), "at {round}");
-                assert!(rt; has_just(&trail, known.as_slice()), "at {round}");
-                has_closure = true;
-            }
-        }
-    }
-    assert!(rt; has_conflict && has_closure);
+fn a_long_chain_is_followed(rt: HostRuntime) -> Result<(), Fail> {
+    let mut parts = Parts::new(rt.alloc(), 400_000)?;
+    parts.attach_numbers(rt.alloc(), &[1])?;
+    attach_chain(&mut parts)?;
+    assert!(rt; parts.propagate().is_none());
+    let lits = parts.trail().lits();
+    assert!(rt; lits.len() == 400_000 && lits.iter().all(|l| !l.is_negative()));
     Ok(())
 }
