@@ -1,5 +1,5 @@
 -- What a line of a section adds.
-use Rattle.std.proofs.Common.{◌≡◌, ℕ, suc, ◌+◌, ◌-◌, ◌≤◌, nat_lt, nat_le, List, [], ◌∷◌, ◌++◌, length, get_or, Bool, true, false, cond, Option, Some, None, Result, Ok, Err, refl, ap, sym, ◌∙◌, subst, arith, length-append}
+use Rattle.std.proofs.Common.{◌≡◌, ℕ, suc, nat_lt, List, [], ◌∷◌, length, get_or, Bool, true, false, cond, Option, Some, None, Result, Ok, Err, refl, ap, sym, ◌∙◌, subst, arith, length-append}
 use Rattle.gi_aiger.specs.declared.fault.AigCode.{AigCode}
 use Rattle.gi_aiger.specs.declared.fault.AigCode.TheVariants.{Defined, Undefined, Count}
 use Rattle.gi_aiger.specs.declared.aig.Reset.{Reset}

@@ -1,6 +1,5 @@
 -- No two gates that stand define the same variable.
-use Rattle.std.proofs.Common.{◌≡◌, ◌≢◌, ℕ, zero, suc, ◌+◌, ◌-◌, ◌*◌, ◌/◌, ◌<◌, ◌≤◌, nat_lt, List, [], ◌∷◌, ◌++◌, length, get_or, Bool, true, false, cond, ◌⊎◌, inl, inr, Option, Some, None, Result, Ok, Err, refl, ap, sym, ◌∙◌, subst, arith, length-append}
-use Rattle.std.specs.Prelude.{◌==◌}
+use Rattle.std.proofs.Common.{◌≡◌, ◌≢◌, ℕ, zero, suc, ◌+◌, ◌*◌, ◌/◌, ◌<◌, ◌≤◌, nat_lt, List, [], ◌∷◌, ◌++◌, length, Bool, true, false, cond, ◌⊎◌, inl, inr, Option, Some, None, Result, Ok, Err, refl, ap, sym, ◌∙◌, subst, arith, length-append}
 use Rattle.std.proofs.lemmas.List.{get_or_append_left}
 use Rattle.gi_aiger.specs.declared.aig.AndGate.{AndGate}
 use Rattle.gi_aiger.specs.declared.aig.Symbol.{Symbol}
@@ -20,12 +19,12 @@ use Rattle.gi_aiger.specs.Header.{header_of}
 use Rattle.gi_aiger.specs.Lines.{lines_of, bare, joined}
 use Rattle.gi_aiger.specs.Rows.{section_of, defined_by}
 use Rattle.gi_aiger.specs.Marks.{mark_at, marked, missing}
-use Rattle.gi_aiger.specs.Taking.{nothing, with_row, with_line, is_defined, is_known, to_come, checked, add_by, add_row, add_line}
+use Rattle.gi_aiger.specs.Taking.{with_row, with_line, is_defined, is_known, to_come, checked, add_by, add_line}
 use Rattle.gi_aiger.specs.Sections.{left_in, sections_of}
 use Rattle.gi_aiger.specs.Groups.{groups_at, difference_of, greater_at, lesser_at}
 use Rattle.gi_aiger.specs.Named.{add_symbol}
 use Rattle.gi_aiger.specs.Levels.{gate_at, IsDistinct}
-use Rattle.gi_aiger.specs.Files.{Told, stopped, gate_stopped, whole, begins_comment, comment_of, then_symbols, read_symbols, own_gate, with_gate, then_groups, then_edge, read_gates, after_sections, then_line, read_section, read_sections, begin, after_header, read_lines, read_file}
+use Rattle.gi_aiger.specs.Files.{Told, gate_stopped, whole, begins_comment, comment_of, then_symbols, read_symbols, own_gate, with_gate, then_groups, then_edge, read_gates, after_sections, then_line, read_section, read_sections, begin, after_header, read_lines, read_file}
 use Rattle.gi_aiger.proofs.Adding.{adds, added_is}
 use Rattle.gi_aiger.proofs.Marking.{rows_keep, rows_define}
 use Rattle.gi_aiger.proofs.Resolving.{place_or}

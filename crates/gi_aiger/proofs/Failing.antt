@@ -1,5 +1,5 @@
 -- A machine that has failed stays so.
-use Rattle.std.proofs.Common.{◌≡◌, ◌≢◌, ℕ, ◌+◌, nat_lt, List, [], ◌∷◌, ◌++◌, length, Bool, true, false, ◌&&◌, cond, Option, Some, None, Result, Ok, Err, refl, ap, sym, ◌∙◌, subst, arith, append_assoc}
+use Rattle.std.proofs.Common.{◌≡◌, ◌≢◌, ℕ, nat_lt, List, [], ◌∷◌, ◌++◌, length, Bool, true, false, cond, Option, Some, None, Result, Ok, Err, refl, ap, sym, ◌∙◌, subst}
 use Rattle.std.specs.Prelude.{◌==◌}
 use Rattle.std.specs.Global.{Global}
 use Rattle.gi_aiger.specs.declared.aig.Aig.{Aig}
@@ -22,7 +22,7 @@ use Rattle.gi_aiger.specs.Groups.{difference_of, greater_at, lesser_at}
 use Rattle.gi_aiger.specs.Named.{add_symbol}
 use Rattle.gi_aiger.specs.Files.{Told, own_gate, begin, read_file}
 use Rattle.gi_aiger.specs.Laws.{FaultsStand, GateFaultsStand}
-use Rattle.gi_aiger.specs.Machine.{start, head_ends, row_ends, symbol_ends, comment_begins, is_c, is_lenient, gates_or_names, phase_after, phase_of, phase_from, greater_ends, lesser_ends, difference_ends, line_by_phase, line_ends, byte_by_phase, byte_in_line, byte_of_gate, byte_of_name, take_byte, answer_of, answer_now, answer, run}
+use Rattle.gi_aiger.specs.Machine.{start, head_ends, row_ends, symbol_ends, comment_begins, is_c, is_lenient, gates_or_names, phase_after, phase_of, phase_from, greater_ends, lesser_ends, difference_ends, line_by_phase, line_ends, take_byte, answer_of, answer_now, answer, run}
 use Rattle.gi_aiger.proofs.Runs.{at, run-append, run-cons, run-nil, last_is, last_begun}
 use Rattle.gi_aiger.proofs.Following.{reads_all}
 

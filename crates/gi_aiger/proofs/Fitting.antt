@@ -1,5 +1,5 @@
 -- The header's numbers and the sum of the justice sizes stay within their limits.
-use Rattle.std.proofs.Common.{◌≡◌, ℕ, ◌+◌, ◌-◌, ◌≤◌, nat_lt, nat_le, List, [], ◌∷◌, ◌++◌, length, Bool, true, false, ◌&&◌, cond, Option, Some, None, Result, Ok, Err, refl, ap, sym, ◌∙◌, subst, arith}
+use Rattle.std.proofs.Common.{◌≡◌, ℕ, ◌≤◌, nat_lt, List, [], ◌∷◌, ◌++◌, Bool, true, false, cond, Option, Some, None, Result, Ok, Err, refl, sym, subst, arith}
 use Rattle.std.specs.Prelude.{◌==◌}
 use Rattle.std.specs.Prelude.{OnOk}
 use Rattle.gi_aiger.specs.declared.aig.Symbol.{Symbol}
@@ -7,7 +7,6 @@ use Rattle.gi_aiger.specs.declared.fault.AigCode.{AigCode}
 use Rattle.gi_aiger.specs.declared.fault.AigCode.TheVariants.{Header, Limit}
 use Rattle.gi_aiger.specs.declared.head.Form.{Form}
 use Rattle.gi_aiger.specs.declared.head.Head.{Head}
-use Rattle.gi_aiger.specs.declared.mark.Mark.{Mark}
 use Rattle.gi_aiger.specs.declared.row.Section.{Section}
 use Rattle.gi_aiger.specs.declared.row.Row.{Row}
 use Rattle.gi_aiger.specs.declared.row.Row.TheVariants as rows
@@ -16,12 +15,12 @@ use Rattle.gi_aiger.specs.declared.phase.Phase.{Phase}
 use Rattle.gi_aiger.specs.declared.phase.Phase.TheVariants.{Heading, Rows, Gates, Naming, Comment, Failed}
 use Rattle.gi_aiger.specs.declared.machine.Machine.{Machine}
 use Rattle.gi_aiger.specs.Fields.{fields_of, numbers_at}
-use Rattle.gi_aiger.specs.Header.{form_of, head_of, is_wrong, is_within, judge_head, has_head, head_numbers, head_parts, head_fields, header_of}
+use Rattle.gi_aiger.specs.Header.{form_of, head_of, is_wrong, is_within, judge_head, has_head, head_parts, head_fields, header_of}
 use Rattle.gi_aiger.specs.Taking.{with_row, Fits, room, add_line, numbers_in}
-use Rattle.gi_aiger.specs.Files.{own_gate, with_gate, begin}
+use Rattle.gi_aiger.specs.Files.{own_gate}
 use Rattle.gi_aiger.specs.Groups.{difference_of, greater_at, lesser_at}
 use Rattle.gi_aiger.specs.Named.{add_symbol}
-use Rattle.gi_aiger.specs.Machine.{IsFit, head_ends, row_ends, symbol_ends, comment_begins, is_c, is_lenient, line_by_phase, line_ends, byte_by_phase, byte_in_line, byte_of_name, byte_of_gate, greater_ends, lesser_ends, difference_ends, take_byte, run}
+use Rattle.gi_aiger.specs.Machine.{IsFit, head_ends, row_ends, symbol_ends, comment_begins, is_c, is_lenient, line_by_phase, line_ends, byte_by_phase, byte_in_line, greater_ends, lesser_ends, difference_ends, take_byte}
 use Rattle.gi_aiger.proofs.Takes.{row_fits}
 use Rattle.gi_aiger.proofs.Adding.{adds, added_is}
 

@@ -1,5 +1,5 @@
 -- The machine reads what the file says.
-use Rattle.std.proofs.Common.{◌≡◌, ◌≢◌, ℕ, zero, suc, ◌+◌, ◌-◌, ◌<◌, nat_lt, List, [], ◌∷◌, ◌++◌, length, Bool, true, false, cond, inl, inr, Option, Some, None, option_map, Result, Ok, Err, refl, ap, sym, ◌∙◌, append_assoc, arith, subst, length-append}
+use Rattle.std.proofs.Common.{◌≡◌, ℕ, zero, suc, ◌+◌, nat_lt, List, [], ◌∷◌, ◌++◌, length, Bool, true, false, cond, inl, inr, Option, Some, None, option_map, Result, Ok, Err, refl, ap, sym, ◌∙◌, append_assoc, arith, subst, length-append}
 use Rattle.std.specs.Prelude.{◌==◌}
 use Rattle.std.specs.Global.{Global}
 use Rattle.std.proofs.lemmas.Bool.{ne_eqb, lt-ltb, le-ltb}
@@ -14,7 +14,7 @@ use Rattle.gi_aiger.specs.declared.row.Section.{Section}
 use Rattle.gi_aiger.specs.declared.row.Section.TheVariants.{Input, Latch, Out, Bad, Con, Size, Justice, Fair, Gate}
 use Rattle.gi_aiger.specs.declared.taken.Taken.{Taken}
 use Rattle.gi_aiger.specs.declared.phase.Phase.{Phase}
-use Rattle.gi_aiger.specs.declared.phase.Phase.TheVariants.{Heading, Rows, Gates, Naming, Comment, Failed}
+use Rattle.gi_aiger.specs.declared.phase.Phase.TheVariants.{Heading, Rows, Gates, Naming}
 use Rattle.gi_aiger.specs.declared.machine.Machine.{Machine}
 use Rattle.gi_aiger.specs.Header.{header_of}
 use Rattle.gi_aiger.specs.Lines.{lines_of, bare, joined}
@@ -22,10 +22,10 @@ use Rattle.gi_aiger.specs.Taking.{nothing, add_line}
 use Rattle.gi_aiger.specs.Sections.{left_in, gate_lines, behind, sections_of, first_left}
 use Rattle.gi_aiger.specs.Groups.{groups_at, difference_of, greater_at, lesser_at}
 use Rattle.gi_aiger.specs.Named.{add_symbol}
-use Rattle.gi_aiger.specs.Files.{Told, stopped, gate_stopped, whole, begins_comment, comment_of, then_symbols, read_symbols, own_gate, with_gate, then_groups, then_edge, read_gates, after_sections, then_line, read_section, read_sections, begin, after_header, read_lines, read_file}
-use Rattle.gi_aiger.specs.Machine.{no_head, start, head_ends, row_ends, symbol_ends, gates_or_names, phase_after, phase_of, phase_from, difference_ends, greater_ends, lesser_ends, byte_of_gate, line_ends, take_byte, answer_now, answer, run}
+use Rattle.gi_aiger.specs.Files.{Told, gate_stopped, whole, begins_comment, comment_of, then_symbols, read_symbols, own_gate, with_gate, then_groups, then_edge, read_gates, after_sections, then_line, read_section, read_sections, begin, after_header, read_lines, read_file}
+use Rattle.gi_aiger.specs.Machine.{no_head, start, head_ends, row_ends, symbol_ends, gates_or_names, phase_after, phase_of, phase_from, difference_ends, greater_ends, lesser_ends, line_ends, take_byte, answer_now, answer, run}
 use Rattle.gi_aiger.proofs.Lining.{AreLines, lines_are, joined_lines}
-use Rattle.gi_aiger.proofs.Runs.{at, run-append, run-cons, run-nil, last_is, failed_answer, line_is, name_line, comment_line}
+use Rattle.gi_aiger.proofs.Runs.{at, run-cons, run-nil, last_is, failed_answer, line_is, name_line, comment_line}
 use Rattle.gi_aiger.proofs.Adding.{one_less}
 
 rest_lines : (l : List ℕ) (ls : List (List ℕ)) → AreLines (l ∷ ls) → AreLines ls

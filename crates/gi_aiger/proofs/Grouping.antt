@@ -1,5 +1,5 @@
 -- The number that groups spell, from the last one on.
-use Rattle.std.proofs.Common.{◌≡◌, ℕ, zero, suc, ◌+◌, ◌*◌, ◌-◌, ◌%◌, ◌<◌, min, List, [], ◌∷◌, length, drop, get_or, refl, ap, sym, ◌∙◌, arith}
+use Rattle.std.proofs.Common.{◌≡◌, ℕ, zero, suc, ◌+◌, ◌*◌, ◌-◌, ◌%◌, ◌<◌, min, List, [], ◌∷◌, length, drop, get_or, refl, ap, ◌∙◌, arith}
 use Rattle.gi_aiger.specs.Groups.{value_of}
 
 pub value_at : (xs : List ℕ) (k : ℕ) → k < length xs → value_of (drop k xs) ≡ get_or xs k 0 % 128 + 128 * value_of (drop (suc k) xs)

@@ -1,7 +1,6 @@
 -- A text is its lines, one behind the other.
 use Rattle.std.proofs.Common.{◌≡◌, ℕ, List, [], ◌∷◌, ◌++◌, Bool, true, false, ◌&&◌, not, ◌⊎◌, inl, inr, refl, ap, sym, ◌∙◌}
 use Rattle.std.specs.Prelude.{◌==◌}
-use Rattle.std.specs.List.{list_all}
 use Rattle.std.proofs.lemmas.Bool.Decides.{eqb_tells}
 use Rattle.gi_aiger.specs.Fields.{with_byte}
 use Rattle.gi_aiger.specs.Lines.{lines_of, bare, joined, is_plain}

@@ -1,6 +1,6 @@
 -- Which variables the lines so far use and define, and that no more can be undefined than lines are to come that define one.
-use Rattle.std.proofs.Common.{◌≡◌, ◌≢◌, ℕ, zero, suc, ◌+◌, ◌-◌, ◌/◌, ◌<◌, ◌≤◌, List, [], ◌∷◌, ◌++◌, length, map, get_or, set, Bool, true, false, not, cond, Option, Some, None, ◌⊎◌, inl, inr, refl, ap, sym, ◌∙◌, subst, arith, length-append}
-use Rattle.std.specs.Prelude.{◌==◌, count_by, replicate, sum_by, Contains, All, filter}
+use Rattle.std.proofs.Common.{◌≡◌, ◌≢◌, ℕ, zero, suc, ◌+◌, ◌-◌, ◌/◌, ◌<◌, ◌≤◌, List, [], ◌∷◌, ◌++◌, length, map, get_or, Bool, true, false, not, cond, Option, Some, None, ◌⊎◌, inl, inr, refl, ap, sym, ◌∙◌, subst, arith, length-append}
+use Rattle.std.specs.Prelude.{◌==◌, replicate, sum_by, Contains, All, filter}
 use Rattle.std.specs.List.{flat_map}
 use Rattle.std.proofs.lemmas.List.{get_or_append_left, length-replicate, get_or-set_same, get_or-set_other}
 use Rattle.std.proofs.lemmas.List.Sums.{sum_by-cons, sum_by-append, sum_by-set}
@@ -13,7 +13,7 @@ use Rattle.gi_aiger.specs.Laws.{UndefinedIsHopeless}
 use Rattle.gi_aiger.specs.Marks.{is_used, is_fresh, missing, mark_at, reaches, with_mark, used, used_literal, all_used, defined, marked, marks_of}
 
 -- a mark's part of the count
-abbrev weight : Mark → ℕ
+abbrev pub weight : Mark → ℕ
 weight m = cond (is_used m) 1 0
 
 weight_one : (m : Mark) → weight m ≤ 1
@@ -42,14 +42,14 @@ fresh_past (m ∷ ms) n zero = refl
 fresh_past (m ∷ ms) n (suc w) = fresh_past ms n w
 
 -- the mark that was given, and the others
-at_same : (v : ℕ) (m : Mark) (ms : List Mark) → mark_at (with_mark v m ms) v ≡ m
+pub at_same : (v : ℕ) (m : Mark) (ms : List Mark) → mark_at (with_mark v m ms) v ≡ m
 at_same v m ms = get_or-set_same (reaches v ms) v m Fresh (reached v ms)
 
-at_other : (v w : ℕ) (m : Mark) (ms : List Mark) → w ≢ v → mark_at (with_mark v m ms) w ≡ mark_at ms w
+pub at_other : (v w : ℕ) (m : Mark) (ms : List Mark) → w ≢ v → mark_at (with_mark v m ms) w ≡ mark_at ms w
 at_other v w m ms other = get_or-set_other (reaches v ms) v w m Fresh other ∙ fresh_past ms (v + 1 - length ms) w
 
 -- the count with another mark
-missing_with : (v : ℕ) (m : Mark) (ms : List Mark) → missing (with_mark v m ms) + weight (mark_at ms v) ≡ missing ms + weight m
+pub missing_with : (v : ℕ) (m : Mark) (ms : List Mark) → missing (with_mark v m ms) + weight (mark_at ms v) ≡ missing ms + weight m
 missing_with v m ms =
     let old : get_or (reaches v ms) v Fresh ≡ mark_at ms v = fresh_past ms (v + 1 - length ms) v in
     subst (λ (o : Mark). missing (with_mark v m ms) + weight o ≡ missing ms + weight m) old (subst (λ (k : ℕ). missing (with_mark v m ms) + weight (get_or (reaches v ms) v Fresh) ≡ k + weight m) (missing-reaches v ms) (sum_by-set weight (reaches v ms) v m Fresh (reached v ms)))
@@ -133,7 +133,7 @@ left : (xs ys : List ℕ) (v : ℕ) → Contains xs v → Contains (xs ++ ys) v
 left xs ys v h = (h.0, omega (arith, h.1, length-append xs ys), get_or_append_left xs ys v h.0 h.1 ∙ h.2)
 
 -- the variables of literals, constants left out
-abbrev variables : List ℕ → List ℕ
+abbrev pub variables : List ℕ → List ℕ
 variables ls = filter (λ v. not (v == 0)) (map (λ l. l / 2) ls)
 
 -- what is marked as used was so, or is used by these literals

@@ -1,9 +1,9 @@
 -- The gate that closes a cycle is one, and no gates behind it help.
-use Rattle.std.proofs.Common.{◌≡◌, ℕ, zero, suc, [], ◌∷◌, ◌+◌, ◌/◌, ◌<◌, ◌≤◌, List, ◌++◌, length, take, drop, get_or, inl, inr, refl, ap, sym, ◌∙◌, subst, arith, length-append}
+use Rattle.std.proofs.Common.{◌≡◌, ℕ, zero, suc, [], ◌∷◌, ◌+◌, ◌/◌, ◌<◌, ◌≤◌, List, ◌++◌, length, take, drop, inl, inr, refl, ap, sym, subst, arith, length-append}
 use Rattle.std.proofs.lemmas.List.{get_or_append_left, take-append-drop}
 use Rattle.std.proofs.lemmas.Bool.Decides.{leb_tells}
 use Rattle.gi_aiger.specs.declared.aig.AndGate.{AndGate}
-use Rattle.gi_aiger.specs.Levels.{gate_at, HasLevels, ClosesCycle}
+use Rattle.gi_aiger.specs.Levels.{gate_at, HasLevels}
 use Rattle.gi_aiger.specs.Laws.{CycleIsOne, CyclesStay}
 
 -- levels of gates are levels of the first of them

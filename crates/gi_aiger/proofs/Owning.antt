@@ -1,6 +1,6 @@
 -- Numbers with one in front, each up to a cap.
-use Rattle.std.proofs.Common.{◌≡◌, ℕ, List, ◌∷◌, map, Option, Some, None, refl, ap, sym, ◌∙◌}
-use Rattle.gi_aiger.specs.Fields.{capped, Keeps, own_in, with_own}
+use Rattle.std.proofs.Common.{◌≡◌, ℕ, List, ◌∷◌, Option, Some, ap, ◌∙◌}
+use Rattle.gi_aiger.specs.Fields.{capped, Keeps, with_own}
 
 pub own_keeps : (own : Option ℕ) (n : ℕ) (kept all : List ℕ) (read : Option (List ℕ)) → own ≡ Some n → all ≡ capped n ∷ kept → Keeps kept read → Keeps all (with_own own read)
 own_keeps own n kept all read is e k = (

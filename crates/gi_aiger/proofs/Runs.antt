@@ -1,9 +1,7 @@
 -- The machine in lines.
-use Rattle.std.proofs.Common.{◌≡◌, ◌≢◌, ℕ, zero, suc, ◌+◌, ◌-◌, ◌<◌, ◌≤◌, nat_lt, List, [], ◌∷◌, ◌++◌, length, Bool, true, false, ◌&&◌, not, cond, ◌⊎◌, inl, inr, Option, Some, None, Result, Ok, Err, refl, ap, sym, ◌∙◌, append_assoc, arith, subst}
+use Rattle.std.proofs.Common.{◌≡◌, ℕ, List, [], ◌∷◌, ◌++◌, length, Bool, true, false, ◌&&◌, not, cond, inl, inr, Some, Result, Ok, Err, refl, ap, sym, ◌∙◌, append_assoc, arith}
 use Rattle.std.specs.Prelude.{◌==◌}
 use Rattle.std.specs.Char.{is_ascii_digit}
-use Rattle.std.specs.List.{fold}
-use Rattle.std.specs.Str.{bytes_eq}
 use Rattle.std.specs.Global.{Global}
 use Rattle.std.proofs.lemmas.Bool.{ne_eqb}
 use Rattle.std.proofs.lemmas.Bool.Decides.{eqb_tells}
@@ -11,7 +9,6 @@ use Rattle.std.proofs.lemmas.List.{append-nil}
 use Rattle.std.proofs.lemmas.List.Sums.{fold-append}
 use Rattle.gi_aiger.specs.declared.aig.Symbol.{Symbol}
 use Rattle.gi_aiger.specs.declared.fault.AigCode.{AigCode}
-use Rattle.gi_aiger.specs.declared.fault.AigCode.TheVariants.{End}
 use Rattle.gi_aiger.specs.declared.head.Head.{Head}
 use Rattle.gi_aiger.specs.declared.row.Section.{Section}
 use Rattle.gi_aiger.specs.declared.taken.Taken.{Taken}
@@ -22,8 +19,8 @@ use Rattle.gi_aiger.specs.Header.{header_of}
 use Rattle.gi_aiger.specs.Lines.{bare, joined}
 use Rattle.gi_aiger.specs.Taking.{add_line}
 use Rattle.gi_aiger.specs.Named.{add_symbol}
-use Rattle.gi_aiger.specs.Files.{Told, stopped, whole, begins_comment, comment_of, then_symbols, read_symbols}
-use Rattle.gi_aiger.specs.Machine.{head_ends, row_ends, symbol_ends, comment_begins, is_c, is_lenient, line_ends, byte_in_line, take_byte, last_line, answer_of, answer_now, answer, run}
+use Rattle.gi_aiger.specs.Files.{stopped, whole, begins_comment, comment_of}
+use Rattle.gi_aiger.specs.Machine.{head_ends, row_ends, symbol_ends, comment_begins, is_c, is_lenient, line_ends, byte_in_line, take_byte, answer_now, answer, run}
 use Rattle.gi_aiger.proofs.Lining.{IsPlain, AreLines, plain_head, bare_whole, bare_plain}
 
 abbrev pub at : Global → ℕ → Phase → Head → List ℕ → Taken → List Symbol → List ℕ → Machine

@@ -1,5 +1,5 @@
 -- The first section with lines to come, looked for from one section on.
-use Rattle.std.proofs.Common.{◌≡◌, ◌≢◌, ℕ, List, Option, Some, None, refl, ap, sym, ◌∙◌}
+use Rattle.std.proofs.Common.{◌≡◌, ◌≢◌, Option, Some, None, refl, ap, ◌∙◌}
 use Rattle.std.proofs.lemmas.Bool.{ne_eqb}
 use Rattle.gi_aiger.specs.declared.head.Head.{Head}
 use Rattle.gi_aiger.specs.declared.taken.Taken.{Taken}

@@ -1,11 +1,11 @@
 -- What a reader answers of all bytes that it was fed.
-use Rattle.std.specs.Prelude.{◌≡◌, ℕ, ◌+◌, ◌⊎◌, List, Result, Ok, Err}
+use Rattle.std.specs.Prelude.{◌≡◌, ℕ, ◌+◌, ◌⊎◌, Result, Ok, Err}
 use Rattle.gi_aiger.specs.declared.aig.Aig.{Aig}
 use Rattle.gi_aiger.specs.declared.fault.AigCode.TheVariants.{Cycle}
 use Rattle.gi_aiger.specs.declared.fault.AigFault.{AigFault}
 use Rattle.gi_aiger.specs.declared.read.AigRead.{AigRead}
 use Rattle.gi_aiger.specs.declared.read.AigRead.TheVariants as reads
-use Rattle.gi_aiger.specs.Files.{Told, read_file}
+use Rattle.gi_aiger.specs.Files.{Told}
 use Rattle.gi_aiger.specs.Levels.{HasLevels, ClosesCycle}
 
 -- what is read of what a file says: a gate that closes a cycle stands before every other fault

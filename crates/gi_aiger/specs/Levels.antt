@@ -1,5 +1,5 @@
 -- Gates without cycles.
-use Rattle.std.specs.Prelude.{◌≡◌, ◌≢◌, ℕ, suc, ◌+◌, ◌/◌, ◌<◌, ◌⊎◌, max, List, length, take, map, slice_index, slice_index_or}
+use Rattle.std.specs.Prelude.{◌≡◌, ℕ, ◌+◌, ◌/◌, ◌<◌, List, length, take, slice_index_or}
 use Rattle.gi_aiger.specs.declared.aig.AndGate.{AndGate}
 
 abbrev pub gate_at : List AndGate → ℕ → AndGate

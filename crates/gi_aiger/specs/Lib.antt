@@ -15,4 +15,8 @@ pub mod Places
 pub mod Reader
 pub mod Answers
 pub mod Texts
+pub mod Deltas
+pub mod Relation
+pub mod Saying
+pub mod Good
 pub mod Laws

@@ -1,5 +1,5 @@
 -- The machine over bytes that the code is. What files say is in `Files` and `Relation`, and the reader's contract says that this machine reads it.
-use Rattle.std.specs.Prelude.{◌≡◌, ℕ, zero, suc, ◌+◌, ◌≤◌, nat_lt, nat_le, Bool, true, false, ◌==◌, ◌&&◌, not, List, [], ◌∷◌, ◌++◌, length, Option, Some, None, Result, Ok, Err, if◌then◌else◌}
+use Rattle.std.specs.Prelude.{◌≡◌, ℕ, ◌+◌, ◌≤◌, nat_lt, Bool, true, ◌==◌, ◌&&◌, not, List, [], ◌∷◌, ◌++◌, length, Option, Some, None, Result, Ok, Err, if◌then◌else◌}
 use Rattle.std.specs.Str.{bytes_eq}
 use Rattle.std.specs.Char.{is_ascii_digit}
 use Rattle.std.specs.List.{fold}
@@ -11,7 +11,6 @@ use Rattle.gi_aiger.specs.declared.head.Form.{Form}
 use Rattle.gi_aiger.specs.declared.head.Form.TheVariants.{Ascii, Binary}
 use Rattle.gi_aiger.specs.declared.head.Head.{Head}
 use Rattle.gi_aiger.specs.declared.row.Section.{Section}
-use Rattle.gi_aiger.specs.declared.row.Section.TheVariants as sections
 use Rattle.gi_aiger.specs.declared.taken.Taken.{Taken}
 use Rattle.gi_aiger.specs.declared.phase.Phase.{Phase}
 use Rattle.gi_aiger.specs.declared.phase.Phase.TheVariants.{Heading, Rows, Gates, Naming, Comment, Failed}

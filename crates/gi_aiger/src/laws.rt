@@ -1,5 +1,6 @@
 // Laws of the format.
 ghost use Rattle.gi_aiger.specs.Laws.{CycleIsOne, CyclesStay, FaultsStand, GateFaultsStand, UndefinedIsHopeless};
+ghost use Rattle.gi_aiger.specs.Saying.{ReadIsSaid, SaidIsGood, SaidIsRead, WrittenAgain, WrittenIsRead, WrittenIsSaid};
 
 use std::alloc::Global;
 
@@ -19,4 +20,27 @@ pub fn undefined_stays()
 pub fn faults_stand(_alloc: Global)
     ensures lines { FaultsStand }
     ensures gates { GateFaultsStand }
+{}
+
+/// A value is read from the bytes of each file that says it, in either form. So bytes say at most one value.
+pub fn said_is_read()
+    ensures { SaidIsRead }
+{}
+
+/// A value that is read from a file is what the file says, where its gates have no cycles.
+pub fn read_is_said()
+    ensures { ReadIsSaid }
+{}
+
+/// What is written of a good value in the ASCII form says the value, and is read as it. So what any file says is written,
+/// read, and written again as the same bytes.
+pub fn written_is_read()
+    ensures said { WrittenIsSaid }
+    ensures read { WrittenIsRead }
+    ensures again { WrittenAgain }
+{}
+
+/// A value that some file says is good; and a good one is said by what is written of it (`written_is_read`).
+pub fn said_is_good()
+    ensures { SaidIsGood }
 {}

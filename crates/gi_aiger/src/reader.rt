@@ -4,6 +4,7 @@ ghost use Rattle.gi_aiger.specs.Files.{read_file};
 ghost use Rattle.gi_aiger.specs.Levels.{IsDistinct};
 ghost use Rattle.gi_aiger.specs.Machine.{IsFit, run, answer, take_byte};
 ghost use Rattle.gi_aiger.specs.Answers.{Tells};
+ghost use Rattle.gi_aiger.specs.Saying.{IsSaid};
 ghost use Rattle.gi_aiger.specs.declared.read.AigRead.TheVariants as reads;
 
 use crate::judge::read_off;
@@ -64,9 +65,11 @@ impl AigReader {
     }
 
     /// The input has ended. The answer is the value of all bytes that were fed, or their first fault.
+    /// A value is what these bytes say; where there is a fault, they say none.
     /// `NoMemory` comes where a `feed` answered an error; else it is want of memory here.
     pub fn finish(self) -> AigRead
         ensures read { (bytes : List ℕ) → HasRead self bytes → Tells result (read_file bytes) }
+        ensures said { (bytes : List ℕ) → HasRead self bytes → IsSaid result bytes }
         ensures broken { self.broken ≡ true → result ≡ reads.NoMemory }
     {
         if self.broken {

@@ -1,4 +1,4 @@
-use crate::{Aig, AigFault, AigRead, AigReader};
+use crate::{Aig, AigFault, AigRead, AigReader, write_ascii};
 use std::alloc::Global;
 use std::test::Fail;
 
@@ -155,5 +155,48 @@ fn reads_the_table(rt: HostRuntime) -> Result<(), Fail> {
             );
         }
     }
+    Ok(())
+}
+
+// A file, and how its value is written in the ASCII form, in the same spelling.
+const AGAIN: &str = "aag 0 0 0 1 0/1|aag 0 0 0 1 0/1/
+aag 0 0 0 1 0/1/cn x/|aag 0 0 0 1 0/1/c/n x/
+aag 0 0 0 1 0/1/c|aag 0 0 0 1 0/1/c/
+aag 02 0 2 0 0 0 0 0 0/2 4 0/04 3 4|aag 2 0 2 0 0/2 4/4 3 4/
+aag 1 1 0 0 0 0 1 1 0/2/2/2/3/2/i0 a b/c0 c/|aag 1 1 0 0 0 0 1 1/2/2/2/3/2/i0 a b/c0 c/
+aig 3 1 0 1 2/6/\x02\x00\x02\x01|aag 3 1 0 1 2/2/6/4 2 2/6 4 3/";
+
+fn value_of(alloc: Global, text: &[u8]) -> Result<Aig, Fail> {
+    let mut reader = AigReader::new(alloc);
+    reader.feed(text)?;
+    match reader.finish() {
+        AigRead::Aig(aig) => Ok(aig),
+        AigRead::Fault(_) => Err(Fail::from("a fault")),
+        AigRead::NoMemory => Err(Fail::from("no memory")),
+    }
+}
+
+#[test]
+fn writes_again(rt: HostRuntime) -> Result<(), Fail> {
+    let alloc = rt.alloc();
+    for row in AGAIN.split('\n') {
+        let mut cells = row.split('|');
+        let text = bytes_of(alloc, cells.next().unwrap_or(""))?;
+        let want = bytes_of(alloc, cells.next().unwrap_or(""))?;
+        let aig = value_of(alloc, text.as_slice())?;
+        assert_eq!(rt;
+            write_ascii(alloc, &aig)?.as_slice(),
+            want.as_slice(),
+            "of {row}"
+        );
+    }
+    Ok(())
+}
+
+#[test]
+fn has_one_output(rt: HostRuntime) -> Result<(), Fail> {
+    let aig = value_of(rt.alloc(), b"aag 0 0 0 1 0\n1")?;
+    assert_eq!(rt; aig.outs.len(), 1);
+    assert_eq!(rt; aig.outs.get(0).map(|edge| edge.code()), Some(1));
     Ok(())
 }

@@ -2,6 +2,8 @@
 ghost use Rattle.std.specs.Prelude.{◌≡◌, ◌++◌, ◌∷◌, [], length, decimal, OnOk, IfOk};
 ghost use Rattle.std.specs.List.{flat_map};
 ghost use Rattle.gi_aiger.specs.Texts.{ascii_text, body_text, comment_text, count_text, counts_text, front_text, further_text, gate_line, head_text, latch_line, number_line, number_lines, reset_text, symbol_line};
+ghost use Rattle.gi_aiger.specs.Good.{IsGood};
+ghost use Rattle.gi_aiger.specs.Relation.{IsAscii};
 
 use crate::aig::{Aig, AndGate, Latch, Reset, Symbol};
 use crate::lists::Edges;
@@ -218,14 +220,23 @@ fn body_of(alloc: Global, aig: &Aig) -> Result<Bytes, AllocError>
     Ok(out)
 }
 
-/// The text of a value in the ASCII form of AIGER 1.9: the header with the further counts up to the last that isn't 0, the
-/// sections in order, a latch's reset where it isn't 0, the symbols, and the comment behind a line `c`.
+// The text of a value in the ASCII form.
 #[tactic(auto, unfolding(crate::specs::Texts::ascii_text))]
-pub fn write_ascii(alloc: Global, aig: &Aig) -> Result<Bytes, AllocError>
+fn text_of(alloc: Global, aig: &Aig) -> Result<Bytes, AllocError>
     ensures { IfOk result (λ bytes. bytes ≡ ascii_text aig.now) }
 {
     let mut out = body_of(alloc, aig)?;
     put_symbols(&mut out, aig.symbols.as_slice())?;
     put_comment(&mut out, &aig.comment)?;
     Ok(out)
+}
+
+/// The text of a value in the ASCII form of AIGER 1.9: the header with the further counts up to the last that isn't 0, the
+/// sections in order, a latch's reset where it isn't 0, the symbols, and the comment behind a line `c`. The text says the
+/// value, if some file does.
+pub fn write_ascii(alloc: Global, aig: &Aig) -> Result<Bytes, AllocError>
+    ensures text { IfOk result (λ bytes. bytes ≡ ascii_text aig.now) }
+    ensures said { IsGood aig.now → IfOk result (λ bytes. IsAscii aig.now bytes) }
+{
+    text_of(alloc, aig)
 }

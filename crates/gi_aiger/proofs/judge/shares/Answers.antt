@@ -1,4 +1,4 @@
-use Rattle.std.proofs.Common.{◌≡◌, ◌++◌, ◌∷◌, [], List, ℕ, length, ap, sym, ◌∙◌, arith, subst}
+use Rattle.std.proofs.Common.{◌++◌, List, ℕ, ap, ◌∙◌, arith}
 use Rattle.gi_aiger.specs.Files.{shares}
 use Rattle.std.specs.Prelude.{drop, slice_index, ◌+◌}
 use Rattle.std.proofs.Common.{refl}

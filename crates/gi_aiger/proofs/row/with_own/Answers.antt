@@ -1,4 +1,4 @@
-use Rattle.std.proofs.Common.{sym, ap, ◌∙◌, ◌++◌, ◌∷◌, [], List, ℕ}
+use Rattle.std.proofs.Common.{ap, ◌∙◌, ◌++◌, ◌∷◌, [], List, ℕ}
 use Rattle.gi_aiger.proofs.Owning.{own_keeps}
 use Rattle.gi_aiger.proofs.row.with_own.Goals as goal
 

@@ -1,6 +1,4 @@
-use Rattle.std.proofs.Common.{sym, subst, List, Bool}
-use Rattle.gi_aiger.specs.declared.aig.Symbol.{Symbol}
-use Rattle.gi_aiger.proofs.Naming.{Tell, none_named}
+use Rattle.gi_aiger.proofs.Naming.{none_named}
 use Rattle.gi_aiger.proofs.named.Named.new.Goals as goal
 
 pub invariant_of-result : goal.invariant_of-result

@@ -1,7 +1,7 @@
 use Rattle.std.proofs.Common.{ap, sym, ◌∙◌, ◌++◌, append_assoc}
 use Rattle.gi_aiger.specs.Files.{read_file}
 use Rattle.gi_aiger.specs.Machine.{run, answer}
-use Rattle.gi_aiger.specs.Reader.{reads, HasRead}
+use Rattle.gi_aiger.specs.Reader.{reads}
 use Rattle.gi_aiger.proofs.Runs.{run-append}
 use Rattle.gi_aiger.proofs.reader.AigReader.feed.Goals as goal
 

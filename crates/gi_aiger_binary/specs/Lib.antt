@@ -1,0 +1,10 @@
+pub mod Differences
+pub mod Levels
+pub mod Order
+pub mod Renumbering
+pub mod Numbers
+pub mod Texts
+pub mod Written
+pub mod Numbered
+pub mod Sound
+pub mod Laws

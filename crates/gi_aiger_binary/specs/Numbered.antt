@@ -1,0 +1,76 @@
+-- Values that the binary form can say.
+use Rattle.std.specs.Prelude.{◌≡◌, ℕ, zero, suc, ◌+◌, ◌*◌, ◌<◌, ◌≤◌, true, false, List, [], ◌∷◌, ◌++◌, length, map}
+use Rattle.std.specs.List.{flat_map, AllByRecursion}
+use Rattle.gi_aiger.specs.declared.aig.Aig.{Aig}
+use Rattle.gi_aiger.specs.declared.aig.AndGate.{AndGate}
+use Rattle.gi_aiger.specs.declared.aig.Latch.{Latch}
+use Rattle.gi_aiger.specs.declared.aig.Symbol.{Symbol}
+use Rattle.gi_aiger.specs.declared.head.Form.TheVariants.{Binary}
+use Rattle.gi_aiger.specs.declared.head.Head.{Head}
+use Rattle.gi_aiger.specs.Lines.{is_plain}
+use Rattle.gi_aiger.specs.Symbols.{places_of}
+use Rattle.gi_aiger.specs.Named.{is_named}
+
+-- the literals of so many variables from one on
+abbrev pub evens_from : ℕ → ℕ → List ℕ
+evens_from v zero = []
+evens_from v (suc n) = 2 * v ∷ evens_from (suc v) n
+
+-- literals of the variables up to the greatest
+abbrev pub AreWithin : ℕ → List ℕ → Type 0
+AreWithin max ls = AllByRecursion (λ l. l ≤ 2 * max + 1) ls
+
+-- a gate stands behind its operands, of which the greater comes first
+abbrev pub IsFalling : AndGate → Type 0
+IsFalling g = (g.rhs0 < g.lhs) × (g.rhs1 ≤ g.rhs0)
+
+-- the variables are numbered from 1: those of the inputs, of the latches, and of the gates
+pub record IsNumbered (w : Aig) : Type 0 where
+  pub max : w.max ≡ length w.inputs + length w.latches + length w.gates
+  pub inputs : w.inputs ≡ evens_from 1 (length w.inputs)
+  pub latches : map (λ (l : Latch). l.lit) w.latches ≡ evens_from (length w.inputs + 1) (length w.latches)
+  pub gates : map (λ (g : AndGate). g.lhs) w.gates ≡ evens_from (length w.inputs + length w.latches + 1) (length w.gates)
+  pub falling : AllByRecursion IsFalling w.gates
+  pub nexts : AreWithin w.max (map (λ (l : Latch). l.next) w.latches)
+  pub outs : AreWithin w.max w.outs
+  pub bads : AreWithin w.max w.bads
+  pub cons : AreWithin w.max w.cons
+  pub justice : AreWithin w.max (flat_map (λ p. p) w.justice)
+  pub fair : AreWithin w.max w.fair
+
+-- the counts of a value
+abbrev pub head_of_aig : Aig → Head
+head_of_aig v = record {
+  form = Binary;
+  max = length v.inputs + length v.latches + length v.gates;
+  inputs = length v.inputs;
+  latches = length v.latches;
+  outs = length v.outs;
+  gates = length v.gates;
+  bads = length v.bads;
+  cons = length v.cons;
+  justice = length v.justice;
+  fair = length v.fair;
+}
+
+-- a symbol names what is there, by one byte at least and without LF
+pub record IsSymbolOf (h : Head) (s : Symbol) : Type 0 where
+  pub there : s.place < places_of h s.kind
+  pub some : 0 < length s.name
+  pub plain : is_plain s.name ≡ true
+
+-- symbols behind others, no two of the same kind and place
+abbrev pub AreSymbols : Head → List Symbol → List Symbol → Type 0
+AreSymbols h before [] = Unit {0}
+AreSymbols h before (s ∷ ss) = IsSymbolOf h s × (is_named before s.kind s.place ≡ false) × AreSymbols h (before ++ s ∷ []) ss
+
+-- the counts are within the limits, and the symbols are in order
+pub record IsInLimits (v : Aig) : Type 0 where
+  pub variables : length v.inputs + length v.latches + length v.gates ≤ 1048576
+  pub outs : length v.outs ≤ 1048576
+  pub bads : length v.bads ≤ 1048576
+  pub cons : length v.cons ≤ 1048576
+  pub justice : length v.justice ≤ 1048576
+  pub sizes : length (flat_map (λ p. p) v.justice) ≤ 1048576
+  pub fair : length v.fair ≤ 1048576
+  pub symbols : AreSymbols (head_of_aig v) [] v.symbols

@@ -1,0 +1,25 @@
+// Laws of the binary form.
+ghost use Rattle.gi_aiger_binary.specs.Laws.{GoodIsWritable, NumbersStay, TextsAreReadBack, TextsSayTheirValue, ValuesAreNumbered, WrittenAgain};
+
+/// A sound value is numbered anew as the binary form wants it: inputs, latches and gates from 1 on, each gate behind its operands,
+/// of which the greater comes first.
+pub fn values_are_numbered()
+    ensures { ValuesAreNumbered }
+{}
+
+/// The binary text of a numbered value within the limits is read as that value, and is a file of the binary form that says it.
+pub fn texts_are_read_back()
+    ensures read { TextsAreReadBack }
+    ensures said { TextsSayTheirValue }
+{}
+
+/// Numbering a sound value anew a second time changes nothing. So what is read from what was written is written as the same bytes.
+pub fn numbers_stay()
+    ensures stay { NumbersStay }
+    ensures again { WrittenAgain }
+{}
+
+/// A value that some file says, in either form, can be numbered anew and written, and is sound.
+pub fn good_is_writable()
+    ensures { GoodIsWritable }
+{}

@@ -1,0 +1,167 @@
+// Values with their variables numbered anew.
+ghost use Rattle.std.specs.Prelude.{◌≡◌, ◌+◌, ◌/◌, ◌<◌, ◌≤◌, ◌^◌, ℕ, length, map, slice_index, IfOk};
+ghost use Rattle.gi_aiger_binary.specs.Renumbering.{gate_by, latch_by, literal_by, numbered_by, IsRenumbered};
+ghost use Rattle.gi_aiger_binary.specs.Sound.{IsWritable};
+
+use crate::numbers::{number_at, numbers_of, variables_of};
+use crate::order::by_level;
+use gi_aiger::{Aig, AndGate, EdgeLists, Edges, Gates, Latch, Latches, Symbol, Symbols};
+use gi_lit::Edge;
+use gi_text::Bytes;
+use std::alloc::{AllocError, Global};
+
+fn literal(numbers: &[u32], edge: Edge) -> Edge
+    requires { (x : ℕ) → slice_index numbers.now x < 2 ^ 31 }
+    ensures { result ≡ literal_by (slice_index numbers.now) edge }
+{
+    let number = number_at(numbers, edge.node());
+    Edge::new(2 * number + edge.code() % 2)
+}
+
+fn latch(numbers: &[u32], latch: Latch) -> Latch
+    requires { (x : ℕ) → slice_index numbers.now x < 2 ^ 31 }
+    ensures { result ≡ latch_by (slice_index numbers.now) latch }
+{
+    Latch {
+        lit: literal(numbers, latch.lit),
+        next: literal(numbers, latch.next),
+        reset: latch.reset,
+    }
+}
+
+fn gate(numbers: &[u32], gate: AndGate) -> AndGate
+    requires { (x : ℕ) → slice_index numbers.now x < 2 ^ 31 }
+    ensures { result ≡ gate_by (slice_index numbers.now) gate }
+{
+    let left = literal(numbers, gate.rhs0).code();
+    let right = literal(numbers, gate.rhs1).code();
+    AndGate {
+        lhs: literal(numbers, gate.lhs),
+        rhs0: Edge::new(left.max(right)),
+        rhs1: Edge::new(left.min(right)),
+    }
+}
+
+fn edges(alloc: Global, numbers: &[u32], edges: &[Edge]) -> Result<Edges, AllocError>
+    requires { (x : ℕ) → slice_index numbers.now x < 2 ^ 31 }
+    ensures { IfOk result (λ out. out ≡ map (literal_by (slice_index numbers.now)) edges.now) }
+{
+    let mut out = Edges::new(alloc);
+    for edge in edges {
+        out.push(literal(numbers, *edge))?;
+    }
+    Ok(out)
+}
+
+fn latches(alloc: Global, numbers: &[u32], latches: &[Latch]) -> Result<Latches, AllocError>
+    requires { (x : ℕ) → slice_index numbers.now x < 2 ^ 31 }
+    ensures { IfOk result (λ out. out ≡ map (latch_by (slice_index numbers.now)) latches.now) }
+{
+    let mut out = Latches::new(alloc);
+    for item in latches {
+        out.push(latch(numbers, *item))?;
+    }
+    Ok(out)
+}
+
+fn gates(alloc: Global, numbers: &[u32], gates: &[AndGate]) -> Result<Gates, AllocError>
+    requires { (x : ℕ) → slice_index numbers.now x < 2 ^ 31 }
+    ensures { IfOk result (λ out. out ≡ map (gate_by (slice_index numbers.now)) gates.now) }
+{
+    let mut out = Gates::new(alloc);
+    for item in gates {
+        out.push(gate(numbers, *item))?;
+    }
+    Ok(out)
+}
+
+fn lists(alloc: Global, numbers: &[u32], lists: &[Edges]) -> Result<EdgeLists, AllocError>
+    requires { (x : ℕ) → slice_index numbers.now x < 2 ^ 31 }
+    ensures { IfOk result (λ out. out ≡ map (map (literal_by (slice_index numbers.now))) lists.now) }
+{
+    let mut out = EdgeLists::new(alloc);
+    for list in lists {
+        out.push(edges(alloc, numbers, list.as_slice())?)?;
+    }
+    Ok(out)
+}
+
+fn symbol_again(alloc: Global, symbol: &Symbol) -> Result<Symbol, AllocError>
+    ensures { IfOk result (λ again. again ≡ symbol.now) }
+{
+    Ok(Symbol {
+        kind: symbol.kind,
+        place: symbol.place,
+        name: Bytes::of(alloc, symbol.name.as_slice())?,
+    })
+}
+
+fn symbols_again(alloc: Global, symbols: &[Symbol]) -> Result<Symbols, AllocError>
+    ensures { IfOk result (λ again. again ≡ symbols.now) }
+{
+    let mut out = Symbols::new(alloc);
+    for symbol in symbols {
+        out.push(symbol_again(alloc, symbol)?)?;
+    }
+    Ok(out)
+}
+
+fn comment_again(alloc: Global, comment: &Option<Bytes>) -> Result<Option<Bytes>, AllocError>
+    ensures { IfOk result (λ again. again ≡ comment.now) }
+{
+    match comment {
+        None => Ok(None),
+        Some(text) => Ok(Some(Bytes::of(alloc, text.as_slice())?)),
+    }
+}
+
+// The value with these numbers for its variables, so many of them, and its gates in this order.
+fn numbered(
+    alloc: Global,
+    numbers: &[u32],
+    max: u32,
+    aig: &Aig,
+    ordered: &[AndGate],
+) -> Result<Aig, AllocError>
+    requires { (x : ℕ) → slice_index numbers.now x < 2 ^ 31 }
+    ensures { IfOk result (λ w. w ≡ numbered_by (slice_index numbers.now) max aig.now ordered.now) }
+{
+    let inputs = edges(alloc, numbers, aig.inputs.as_slice())?;
+    let latches = latches(alloc, numbers, aig.latches.as_slice())?;
+    let outs = edges(alloc, numbers, aig.outs.as_slice())?;
+    let bads = edges(alloc, numbers, aig.bads.as_slice())?;
+    let cons = edges(alloc, numbers, aig.cons.as_slice())?;
+    let justice = lists(alloc, numbers, aig.justice.as_slice())?;
+    let fair = edges(alloc, numbers, aig.fair.as_slice())?;
+    let gates = gates(alloc, numbers, ordered)?;
+    let symbols = symbols_again(alloc, aig.symbols.as_slice())?;
+    let comment = comment_again(alloc, &aig.comment)?;
+    Ok(Aig {
+        max,
+        inputs,
+        latches,
+        outs,
+        bads,
+        cons,
+        justice,
+        fair,
+        gates,
+        symbols,
+        comment,
+    })
+}
+
+/// The same value with its variables numbered from 1: inputs in order, then latches in order, then gates by level and within a
+/// level in their order. A gate's level is one more than the greater level of its operands; what no gate defines has level 0.
+/// The greatest variable is the last one, a gate's greater operand comes first, and a variable that nothing defines becomes
+/// constant false. There must be no cycle of gates, no variable that two gates define, no gate's variable above `max`, and
+/// fewer than 2^31 inputs, latches and gates together; each value that was read is so (`good_is_writable`).
+pub fn renumber(alloc: Global, aig: &Aig) -> Result<Aig, AllocError>
+    requires { IsWritable aig.now }
+    ensures { IfOk result (IsRenumbered aig.now) }
+{
+    let ordered = by_level(alloc, aig.max, aig.gates.as_slice())?;
+    let variables = variables_of(alloc, aig, &ordered)?;
+    let numbers = numbers_of(alloc, &variables)?;
+    numbered(alloc, &numbers, variables.len() as u32, aig, &ordered)
+}

@@ -1,0 +1,93 @@
+ghost use Rattle.std.specs.Prelude.{IfOk, IfSome};
+ghost use Rattle.gi_aiger_binary.specs.Sound.{IsWritable};
+
+use crate::differences::put_difference;
+use crate::{good_is_writable, renumber, write_binary};
+use gi_aiger::{Aig, AigRead, AigReader, said_is_good, write_ascii};
+use gi_text::Bytes;
+use std::alloc::{AllocError, Global};
+use std::test::Fail;
+
+// A file, the binary form of what it says, and that value numbered anew in the ASCII form.
+const ROWS: [(&[u8], &[u8], &[u8]); 4] = [
+    (
+        b"aag 5 1 0 1 2\n2\n10\n10 8 3\n8 2 2\n",
+        b"aig 3 1 0 1 2\n6\n\x02\x00\x02\x01",
+        b"aag 3 1 0 1 2\n2\n6\n4 2 2\n6 4 3\n",
+    ),
+    (
+        b"aag 3 2 0 1 1\n2\n4\n6\n6 2 4\n",
+        b"aig 3 2 0 1 1\n6\n\x02\x02",
+        b"aag 3 2 0 1 1\n2\n4\n6\n6 4 2\n",
+    ),
+    (
+        b"aag 7 2 1 2 4\n2\n4\n6 8\n6\n7\n8 4 10\n10 13 15\n12 2 6\n14 3 7\ni0 enable\ni1 reset\no0 Q\no1 !Q\n",
+        b"aig 7 2 1 2 4\n14\n6\n7\n\x02\x04\x03\x04\x01\x02\x02\x08i0 enable\ni1 reset\no0 Q\no1 !Q\n",
+        b"aag 7 2 1 2 4\n2\n4\n6 14\n6\n7\n8 6 2\n10 7 3\n12 11 9\n14 12 4\ni0 enable\ni1 reset\no0 Q\no1 !Q\n",
+    ),
+    (
+        b"aag 2 0 1 2 0 1 1 1 1\n4 5 4\n4\n5\n4\n5\n1\n4\n1\nl0 x y\nc\nhi",
+        b"aig 1 0 1 2 0 1 1 1 1\n3 2\n2\n3\n2\n3\n1\n2\n1\nl0 x y\nc\nhi",
+        b"aag 1 0 1 2 0 1 1 1 1\n2 3 2\n2\n3\n2\n3\n1\n2\n1\nl0 x y\nc\nhi",
+    ),
+];
+
+// The value that a file says, if it says one.
+fn value_of(alloc: Global, text: &[u8]) -> Result<Option<Aig>, AllocError>
+    ensures { IfOk result (λ value. IfSome value IsWritable) }
+{
+    said_is_good();
+    good_is_writable();
+    let mut reader = AigReader::new(alloc);
+    reader.feed(text)?;
+    match reader.finish() {
+        AigRead::Aig(aig) => Ok(Some(aig)),
+        AigRead::Fault(_) => Ok(None),
+        AigRead::NoMemory => Err(AllocError),
+    }
+}
+
+fn binary_of(alloc: Global, text: &[u8]) -> Result<Option<Bytes>, AllocError> {
+    match value_of(alloc, text)? {
+        None => Ok(None),
+        Some(aig) => Ok(Some(write_binary(alloc, &aig)?)),
+    }
+}
+
+fn numbered(alloc: Global, text: &[u8]) -> Result<Option<Bytes>, AllocError> {
+    match value_of(alloc, text)? {
+        None => Ok(None),
+        Some(aig) => Ok(Some(write_ascii(alloc, &renumber(alloc, &aig)?)?)),
+    }
+}
+
+#[test]
+fn writes_and_reads_the_rows(rt: HostRuntime) -> Result<(), Fail> {
+    let alloc = rt.alloc();
+    for (text, binary, ascii) in ROWS {
+        let written = binary_of(alloc, text)?.ok_or("no value")?;
+        assert_eq!(rt; written.as_slice(), binary);
+        let again = binary_of(alloc, binary)?.ok_or("no value")?;
+        assert_eq!(rt; again.as_slice(), binary);
+        let numbered = numbered(alloc, text)?.ok_or("no value")?;
+        assert_eq!(rt; numbered.as_slice(), ascii);
+    }
+    Ok(())
+}
+
+#[test]
+fn differences_in_their_shortest_spelling(rt: HostRuntime) -> Result<(), Fail> {
+    let rows: [(u32, &[u8]); 5] = [
+        (0, b"\x00"),
+        (2, b"\x02"),
+        (127, b"\x7f"),
+        (128, b"\x80\x01"),
+        (300, b"\xac\x02"),
+    ];
+    for (difference, groups) in rows {
+        let mut out = Bytes::new(rt.alloc());
+        put_difference(&mut out, difference)?;
+        assert_eq!(rt; out.as_slice(), groups, "of {difference}");
+    }
+    Ok(())
+}
