@@ -1,5 +1,8 @@
-use crate::{Circuit, Counts};
-use gi_aiger::Reset;
+ghost use Rattle.std.specs.Prelude.{◌≡◌, ◌≢◌, ◌/◌, ◌<◌, ◌≤◌, ℕ, length, IsTrue};
+ghost use Rattle.gi_circuit.specs.Import.{AreApart, IsAcyclic, gate_at, var_at};
+
+use crate::{Circuit, Counts, Node};
+use gi_aiger::{Aig, AigRead, AigReader, AndGate, Reset};
 use gi_lit::Edge;
 use std::alloc::{AllocError, Global};
 use std::test::Fail;
@@ -101,5 +104,156 @@ fn gates_are_folded_found_and_evaluated(rt: HostRuntime) -> Result<(), Fail> {
         cons: 1,
     };
     assert_eq!(rt; c.counts(), counts);
+    Ok(())
+}
+
+/// What a file says.
+fn read(alloc: Global, file: &str) -> Result<Aig, Fail> {
+    let mut reader = AigReader::new(alloc);
+    reader.feed(file.as_bytes())?;
+    match reader.finish() {
+        AigRead::Aig(aig) => Ok(aig),
+        AigRead::Fault(_) => Err("a file without a fault".into()),
+        AigRead::NoMemory => Err("memory".into()),
+    }
+}
+
+/// Whether a gate's variable is at most `max`, above those of its operands, and of no gate before it.
+fn is_plain(gates: &[AndGate], place: usize, max: u32) -> bool
+    requires { place < length gates.now }
+    ensures within { IsTrue result → var_at gates.now place ≤ max }
+    ensures left { IsTrue result → (gate_at gates.now place).rhs0 / 2 < var_at gates.now place }
+    ensures right { IsTrue result → (gate_at gates.now place).rhs1 / 2 < var_at gates.now place }
+    ensures apart { IsTrue result → (k : ℕ) → k < place → var_at gates.now k ≢ var_at gates.now place }
+{
+    let gate = gates[place];
+    let v = gate.lhs.node();
+    if v > max || gate.rhs0.node() >= v || gate.rhs1.node() >= v {
+        return false;
+    }
+    for k in 0..place {
+        let other = gates[k];
+        if other.lhs.node() == v {
+            return false;
+        }
+    }
+    true
+}
+
+/// Whether all gates are so.
+fn are_plain(gates: &[AndGate], max: u32) -> bool
+    ensures within { IsTrue result → (k : ℕ) → k < length gates.now → var_at gates.now k ≤ max }
+    ensures apart { IsTrue result → AreApart gates.now }
+    ensures acyclic { IsTrue result → IsAcyclic gates.now }
+{
+    for place in 0..gates.len() {
+        if !is_plain(gates, place, max) {
+            return false;
+        }
+    }
+    true
+}
+
+/// The circuit of a small file with plain gates.
+fn circuit_of(alloc: Global, aig: &Aig) -> Result<Circuit, Fail> {
+    if !are_plain(aig.gates.as_slice(), aig.max) {
+        return Err("plain gates".into());
+    }
+    if aig.inputs.len() > 9 || aig.latches.len() > 9 || aig.gates.len() > 9 {
+        return Err("a small file".into());
+    }
+    if aig.outs.len() > 9 || aig.bads.len() > 9 || aig.cons.len() > 9 {
+        return Err("a small file".into());
+    }
+    Ok(Circuit::from_aig(alloc, aig)?)
+}
+
+/// Two numbers for each node: 0 and the place of an input, 1 and that of a latch, or the edges of a gate.
+fn nodes(alloc: Global, c: &Circuit) -> Result<Vec<u32>, AllocError> {
+    let mut all = Vec::new(alloc);
+    for node in c.nodes() {
+        let (first, second) = match *node {
+            Node::Input(place) => (0, place),
+            Node::Latch(place) => (1, place),
+            Node::Gate(a, b) => (a.code(), b.code()),
+        };
+        all.push(first)?;
+        all.push(second)?;
+    }
+    Ok(all)
+}
+
+/// Puts the codes of edges behind a list.
+fn push_codes(all: &mut Vec<u32>, edges: &[Edge]) -> Result<(), AllocError> {
+    for e in edges {
+        all.push(e.code())?;
+    }
+    Ok(())
+}
+
+/// The next states, the outputs, the bad states and the constraints.
+fn edges(alloc: Global, c: &Circuit) -> Result<Vec<u32>, AllocError> {
+    let mut all = Vec::new(alloc);
+    push_codes(&mut all, c.nexts())?;
+    push_codes(&mut all, c.outs())?;
+    push_codes(&mut all, c.bads())?;
+    push_codes(&mut all, c.cons())?;
+    Ok(all)
+}
+
+/// Files, with the nodes and the edges of their circuits: a conjunction; a latch that turns; gates that stand
+/// before their operands, where two have the same level; gates that fold; and a pair in either order.
+#[test]
+fn circuits_of_files(rt: HostRuntime) -> Result<(), Fail> {
+    for (file, expected_nodes, expected_edges) in [
+        (
+            "aag 3 2 0 1 1\n2\n4\n6\n6 2 4\n",
+            [0, 0, 0, 1, 2, 4].as_slice(),
+            [6].as_slice(),
+        ),
+        (
+            "aag 1 0 1 2 0\n2 3\n2\n3\n",
+            [1, 0].as_slice(),
+            [3, 2, 3].as_slice(),
+        ),
+        (
+            "aag 6 2 1 1 3 1 1\n2\n4\n6 13 1\n12\n10\n9\n12 8 10\n10 2 6\n8 5 3\n",
+            [0, 0, 0, 1, 1, 0, 2, 6, 3, 5, 8, 10].as_slice(),
+            [13, 12, 8, 11].as_slice(),
+        ),
+        (
+            "aag 5 1 0 1 2\n2\n10\n10 8 3\n8 2 2\n",
+            [0, 0].as_slice(),
+            [0].as_slice(),
+        ),
+        (
+            "aag 4 2 0 2 2\n2\n4\n6\n9\n6 2 4\n8 4 2\n",
+            [0, 0, 0, 1, 2, 4].as_slice(),
+            [6, 7].as_slice(),
+        ),
+    ] {
+        let c = circuit_of(rt.alloc(), &read(rt.alloc(), file)?)?;
+        let made = nodes(rt.alloc(), &c)?;
+        assert_eq!(rt; made.as_slice(), expected_nodes, "at {file}");
+        let named = edges(rt.alloc(), &c)?;
+        assert_eq!(rt; named.as_slice(), expected_edges, "at {file}");
+    }
+    Ok(())
+}
+
+/// A latch has its file's reset, and keeps its value until it is given a next state.
+#[test]
+fn resets_and_next_states(rt: HostRuntime) -> Result<(), Fail> {
+    let file = read(rt.alloc(), "aag 3 0 3 0 0\n2 2\n4 4 1\n6 6 6\n")?;
+    let mut c = circuit_of(rt.alloc(), &file)?;
+    assert_eq!(rt;
+        c.resets(),
+        [Reset::Zero, Reset::One, Reset::Free].as_slice()
+    );
+    assert_eq!(rt; edges(rt.alloc(), &c)?.as_slice(), [2, 4, 6].as_slice());
+    if c.counts().latches > 1 && c.nodes().len() >= 3 {
+        c.set_next(1, Edge::new(7));
+    }
+    assert_eq!(rt; edges(rt.alloc(), &c)?.as_slice(), [2, 7, 6].as_slice());
     Ok(())
 }

@@ -5,6 +5,8 @@ mod builder;
 mod clauses;
 mod extend;
 mod frame;
+#[cfg(test)]
+mod tests;
 mod unroll;
 
 pub use frame::Frame;
