@@ -170,6 +170,7 @@ module _ (p : Problem) (start : List (List ℕ)) (n : ℕ) where
   answer_follows s call.Model answer w q a h f = same_follows s call.Model answer refl f
   answer_follows s call.Known answer w q a h f = same_follows s call.Known answer refl f
   answer_follows s (call.KnownClause i) answer w q a h f = same_follows s (call.KnownClause i) answer refl f
+  answer_follows s (call.LoadCnf bytes) answer w q a h f = subst (λ r. Follows p start n (after s (call.LoadCnf bytes) r)) (sym h) (gone_follows s _ (λ r. edited_none s.solve (call.LoadCnf bytes) r a.admitted (λ q. refl) (λ q. refl)) refl refl f)
   answer_follows s call.Bye answer w q a h f = same_follows s call.Bye answer refl f
   answer_follows s call.Shut answer w q a h f = subst (λ r. Follows p start n (after s call.Shut r)) (sym h) (record {
     each = λ r h e. let g = f.each r h e in record { problem = g.problem; news = g.news; known = g.known; fresh = g.fresh; spent = g.spent };
@@ -201,7 +202,8 @@ module _ (p : Problem) (start : List (List ℕ)) (n : ℕ) where
       P r = Follows p start n (after s e.call r)
 
       go : (o : Option Refusal) → refuses s e.call ≡ o → Replied s e.call e.reply o → Follows p start n (after s e.call e.reply)
-      go (Some r) i x = subst P (sym x) f
+      go (Some r) i (inl x) = subst P (sym x) f
+      go (Some r) i (inr x) = subst P (sym x.0) dead_follows
       go None i (inr x) = subst P (sym x.0) dead_follows
       go None i (inl x) = elim (work_or_not e.call) [
         | inl w ↦ (let Q : Call → Type 0 = λ d. Answers s d e.reply → Follows p start n (after s d e.reply) in subst Q (sym w.1) (λ h. work_answer_follows s w.0 e.reply (live_run s) refl h f)) x
@@ -239,7 +241,8 @@ begins s b n a = record {
     spent r (inr e) = absurd cc
 
     go : (o : Option Refusal) → Replied s (call.Solve b) (reply.Started n) o → n ≤ s.serial + 1
-    go (Some r) x = absurd cc
+    go (Some r) (inl x) = absurd cc
+    go (Some r) (inr x) = absurd (cc x.0)
     go None (inl x) = (let e : n ≡ s.serial + 1 = cc in omega arith)
     go None (inr x) = absurd (cc x.0)
 

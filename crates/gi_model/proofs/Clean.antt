@@ -85,7 +85,8 @@ given_guard : (s : State) (g : ℕ) → Allows s NewGuard (reply.Guard g) → g 
 given_guard s g a = go (refuses s NewGuard) a.replied
   where
     go : (o : Option Refusal) → Replied s NewGuard (reply.Guard g) o → g ≡ next_guard s.problem
-    go (Some r) x = absurd cc
+    go (Some r) (inl x) = absurd cc
+    go (Some r) (inr x) = absurd (cc x.0)
     go None (inl x) = cc
     go None (inr x) = absurd (cc x.0)
 

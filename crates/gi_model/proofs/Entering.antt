@@ -1,9 +1,15 @@
 -- Which entries there are.
-use Rattle.std.proofs.Common.{◌≡◌, ◌≢◌, ℕ, Bool, true, false, cond, Option, Some, None, List, [], ◌∷◌, ◌++◌, refl, sym, subst, inl, inr}
+use Rattle.std.proofs.Common.{◌≡◌, ◌≢◌, ℕ, Bool, true, false, cond, Option, Some, None, Result, Ok, Err, List, [], ◌∷◌, ◌++◌, refl, sym, ap, subst, arith, inl, inr}
 use Rattle.std.specs.List.{AllByRecursion}
 use Rattle.std.proofs.lemmas.Bool.{cases_Bool}
 use Rattle.gi_model.specs.State.{State, Run, Solve, no_solve, running, paused, ended, Life, alive, shut, dead, live_run, phase_of}
 use Rattle.gi_model.specs.Fits.{fits}
+use Rattle.gi_dimacs.specs.Content.{File}
+use Rattle.gi_dimacs.specs.declared.fault.CnfFault.{CnfFault}
+use Rattle.gi_model.specs.Number.{refusal_number}
+use Rattle.gi_model.specs.Loads.{loaded, file_refused, bad_payload}
+use Rattle.gi_model.specs.declared.refusal.Refusal.TheVariants.{Payload}
+use Rattle.gi_model.specs.declared.refusal.PayloadCode.TheVariants.{Cnf}
 use Rattle.gi_model.specs.Replies.{status_of, waited}
 use Rattle.gi_model.specs.Refusals.{refuses, tests, first_of, is_work, is_none_yet}
 use Rattle.gi_model.specs.Effects.{after, pausing, resuming, stopping}
@@ -98,6 +104,7 @@ answer_inside s call.Wait answer w f a = by_is answer _ a (waited_inside s.solve
 answer_inside s call.Model answer w f a = model_inside s s.solve answer a
 answer_inside s call.Known answer w f a = by_is answer _ a (λ x. x)
 answer_inside s (call.KnownClause i) answer w f a = by_is answer _ a (λ x. x)
+answer_inside s (call.LoadCnf bytes) answer w f a = by_is answer _ a (λ x. x)
 answer_inside s call.Bye answer w f a = by_is answer _ a (λ x. x)
 answer_inside s call.Shut answer w f a = by_is answer _ a (λ x. x)
 answer_inside s (call.Work mark) answer w f a = absurd cc
@@ -113,7 +120,8 @@ pub refused_is : (s : State) (c : Call) (r : Refusal) → Allows s c (reply.Refu
 refused_is s c r a = go (refuses s c) refl a.replied
   where
     go : (o : Option Refusal) → refuses s c ≡ o → Replied s c (reply.Refused r) o → o ≡ Some r
-    go (Some q) e x = cc
+    go (Some q) e (inl x) = cc
+    go (Some q) e (inr x) = absurd (cc x.0)
     go None e (inl x) = absurd (any_inside s c (reply.Refused r) e x tt)
     go None e (inr x) = absurd (cc x.0)
 
@@ -121,18 +129,27 @@ pub never_spent : (s : State) (c : Call) → ¬ Allows s c reply.Spent
 never_spent s c a = go (refuses s c) refl a.replied
   where
     go : (o : Option Refusal) → refuses s c ≡ o → Replied s c reply.Spent o → ⊥
-    go (Some q) e x = absurd cc
+    go (Some q) e (inl x) = absurd cc
+    go (Some q) e (inr x) = absurd (cc x.0)
     go None e (inl x) = any_inside s c reply.Spent e x tt
     go None e (inr x) = absurd (cc x.0)
 
 -- what no test of the table names isn't named
-unnamed : (x : Refusal) (ts : List (Bool × Refusal)) → AllByRecursion (λ (t : Bool × Refusal). t.1 ≢ x) ts → first_of ts ≢ Some x
-unnamed x [] a e = absurd cc
-unnamed x (t ∷ ts) a e = go (unnamed x ts a.1) t.0 e
+unnamed : (x : Refusal) (ts : List (Bool × Refusal)) (last : Option Refusal) → last ≢ Some x → AllByRecursion (λ (t : Bool × Refusal). t.1 ≢ x) ts → first_of ts last ≢ Some x
+unnamed x [] last n a e = n e
+unnamed x (t ∷ ts) last n a e = go (unnamed x ts last n a.1) t.0 e
   where
-    go : first_of ts ≢ Some x → (b : Bool) → cond b (Some t.1) (first_of ts) ≡ Some x → ⊥
+    go : first_of ts last ≢ Some x → (b : Bool) → cond b (Some t.1) (first_of ts last) ≡ Some x → ⊥
     go rest true q = a.0 cc
     go rest false q = rest q
+
+file_unnamed : (file : Result File CnfFault) (x : Refusal) → refusal_number x ≢ 16 → file_refused file ≢ Some x
+file_unnamed (Ok f) x n e = absurd cc
+file_unnamed (Err fault) x n e = n (ap refusal_number (sym (let q : Payload fault.line 0 (Cnf fault.code) ≡ x = cc in q)))
+
+payload_unnamed : (c : Call) (x : Refusal) → refusal_number x ≢ 16 → bad_payload c ≢ Some x
+payload_unnamed (call.LoadCnf bytes) x n e = file_unnamed (loaded bytes) x n e
+payload_unnamed other x n e = absurd cc
 
 abbrev IsNeverNamed : Refusal → Type 0
 IsNeverNamed x = (s : State) (c : Call) → refuses s c ≢ Some x
@@ -141,14 +158,14 @@ pub syntax_unnamed : IsNeverNamed refusal.Syntax
 unfolding refuses
 syntax_unnamed s c e = elim (cases_Bool (is_work c)) [
   | inl t ↦ (let q : None ≡ Some refusal.Syntax = rw t at e in absurd cc)
-  | inr f ↦ unnamed refusal.Syntax (tests s c) ((λ q. cc), ((λ q. cc), ((λ q. cc), ((λ q. cc), ((λ q. cc), ((λ q. cc), ((λ q. cc), ((λ q. cc), ((λ q. cc), ((λ q. cc), ((λ q. cc), ((λ q. cc), tt)))))))))))) (rw f at e)
+  | inr f ↦ unnamed refusal.Syntax (tests s c) (bad_payload c) (payload_unnamed c refusal.Syntax (λ q. omega arith)) ((λ q. cc), ((λ q. cc), ((λ q. cc), ((λ q. cc), ((λ q. cc), ((λ q. cc), ((λ q. cc), ((λ q. cc), ((λ q. cc), ((λ q. cc), ((λ q. cc), ((λ q. cc), tt)))))))))))) (rw f at e)
 ]
 
 pub long_unnamed : IsNeverNamed refusal.Long
 unfolding refuses
 long_unnamed s c e = elim (cases_Bool (is_work c)) [
   | inl t ↦ (let q : None ≡ Some refusal.Long = rw t at e in absurd cc)
-  | inr f ↦ unnamed refusal.Long (tests s c) ((λ q. cc), ((λ q. cc), ((λ q. cc), ((λ q. cc), ((λ q. cc), ((λ q. cc), ((λ q. cc), ((λ q. cc), ((λ q. cc), ((λ q. cc), ((λ q. cc), ((λ q. cc), tt)))))))))))) (rw f at e)
+  | inr f ↦ unnamed refusal.Long (tests s c) (bad_payload c) (payload_unnamed c refusal.Long (λ q. omega arith)) ((λ q. cc), ((λ q. cc), ((λ q. cc), ((λ q. cc), ((λ q. cc), ((λ q. cc), ((λ q. cc), ((λ q. cc), ((λ q. cc), ((λ q. cc), ((λ q. cc), ((λ q. cc), tt)))))))))))) (rw f at e)
 ]
 
 -- a wait may come where callers see no live phase
@@ -167,6 +184,7 @@ pub may_come : (s : State) (c : Call) → fits c ≡ true → (c ≡ call.Wait �
 may_come s (call.Work mark) f w = tt
 may_come s call.Wait f w = not_live s (w refl)
 may_come s (call.Solve b) f w = f
+may_come s (call.LoadCnf bytes) f w = f
 may_come s other f w = refl
 
 pub legal_push : (es : List Entry) (e : Entry) (s : State) → IsLegalFrom s es → Allows (after_all s es) e.call e.reply → IsLegalFrom s (es ++ e ∷ [])

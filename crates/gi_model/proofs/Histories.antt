@@ -19,6 +19,7 @@ use Rattle.gi_model.specs.declared.replies.Reply.{Reply}
 use Rattle.gi_model.specs.declared.replies.Reply.TheVariants as reply
 use Rattle.gi_model.specs.declared.refusal.Refusal.{Refusal}
 use Rattle.gi_model.proofs.Accepting.{IsAccepted, accepted_facts}
+use Rattle.gi_model.proofs.Loading.{load_kept}
 use Rattle.gi_model.proofs.Keeping.{vars_kept, add_kept, under_kept, new_guard_kept, drop_kept, assume_kept, solve_kept, opened_kept, untest_kept, work_kept}
 
 -- the solve alone changes, and assumes no more
@@ -113,6 +114,7 @@ answer_kept s call.NewGuard answer w m a h k = subst (λ r. IsKept (after s call
 answer_kept s (call.Under g c) answer w m a h k = subst (λ r. IsKept (after s (call.Under g c) r)) (sym h) (under_kept s g c a k)
 answer_kept s (call.DropGuard g) answer w m a h k = subst (λ r. IsKept (after s (call.DropGuard g) r)) (sym h) (drop_kept s g a k)
 answer_kept s (call.Assume ls) answer w m a h k = subst (λ r. IsKept (after s (call.Assume ls) r)) (sym h) (assume_kept s ls a k)
+answer_kept s (call.LoadCnf bytes) answer w m a h k = subst (λ r. IsKept (after s (call.LoadCnf bytes) r)) (sym h) (load_kept s bytes a k)
 answer_kept s call.Test answer w m a h k = tested_kept s answer a h k
 answer_kept s call.Untest answer w m a h k = subst (λ r. IsKept (after s call.Untest r)) (sym h) (untest_kept s k)
 answer_kept s (call.Reasons m) answer w n a h k = same_kept s (call.Reasons m) answer refl k
@@ -139,7 +141,8 @@ unfolding after
 allowed_kept s c answer a k = go (refuses s c) refl a.replied
   where
     go : (o : Option Refusal) → refuses s c ≡ o → Replied s c answer o → IsKept (after s c answer)
-    go (Some r) e x = subst (λ q. IsKept (after s c q)) (sym x) k
+    go (Some r) e (inl x) = subst (λ q. IsKept (after s c q)) (sym x) k
+    go (Some r) e (inr x) = subst (λ q. IsKept (after s c q)) (sym x.0) dead_kept
     go None e (inr x) = subst (λ q. IsKept (after s c q)) (sym x.0) dead_kept
     go None e (inl x) = elim (work_or_not c) [
       | inl w ↦ (let P : Call → Type 0 = λ d. Answers s d answer → IsKept (after s d answer) in subst P (sym w.1) (λ h. work_answer_kept s w.0 answer (live_run s) refl h k)) x

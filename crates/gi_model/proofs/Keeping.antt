@@ -87,7 +87,7 @@ vars_grown s n le k = with_problem_kept s (grown n s.problem) (grows_grown n s.p
 pub vars_kept : (s : State) (n : ℕ) → IsAccepted s (call.Vars n) → IsKept s → IsKept (with_problem (grown n s.problem) s)
 vars_kept s n a k = vars_grown s n (ltb-false most_vars n a.within) k
 
-all_usable : (p : Problem) (c : List ℕ) → some_unusable p c ≡ false → All (IsUsable p) c
+pub all_usable : (p : Problem) (c : List ℕ) → some_unusable p c ≡ false → All (IsUsable p) c
 all_usable p c e k d lt = elim (cases_Bool (is_usable p (get_or c k d))) [
   | inl t ↦ usable_facts p (get_or c k d) t
   | inr f ↦ absurd (both_ways _ e (list_any_at (λ l. not (is_usable p l)) c k d lt (rw f refl)))

@@ -1,6 +1,7 @@
 pub mod Accepting
 pub mod Counts
 pub mod Keeping
+pub mod Loading
 pub mod Histories
 pub mod Clean
 pub mod Telling

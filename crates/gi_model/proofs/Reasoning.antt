@@ -87,7 +87,8 @@ pub answered_reasons : (s : State) (m : ℕ) (rs : List ℕ) → IsKept s → Al
 answered_reasons s m rs k a = go (refuses s (call.Reasons m)) refl a.replied
   where
     go : (o : Option Refusal) → refuses s (call.Reasons m) ≡ o → Replied s (call.Reasons m) (reply.Reasons rs) o → IsConsequence (force s.problem rs) rs m
-    go (Some r) e x = absurd cc
+    go (Some r) e (inl x) = absurd cc
+    go (Some r) e (inr x) = absurd (cc x.0)
     go None e (inr x) = absurd (cc x.0)
     go None e (inl x) =
         let f = accepted_facts s (call.Reasons m) refl e in

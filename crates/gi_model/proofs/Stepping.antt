@@ -6,7 +6,7 @@ use Rattle.gi_model.specs.State.{State, Solve, no_solve, running, paused, ended,
 use Rattle.gi_model.specs.Replies.{status_of}
 use Rattle.gi_model.specs.Refusals.{refuses, is_none_yet}
 use Rattle.gi_model.specs.Effects.{after, accepted, pausing, resuming, stopping, started}
-use Rattle.gi_model.specs.History.{MayCome, Answers, Replied, Step, takes_memory}
+use Rattle.gi_model.specs.History.{MayCome, Answers, Replied, Step, takes_memory, is_load, is_of_payload}
 use Rattle.gi_model.specs.declared.calls.Call.{Call}
 use Rattle.gi_model.specs.declared.calls.Call.TheVariants as call
 use Rattle.gi_model.specs.declared.replies.Reply.{Reply}
@@ -20,7 +20,12 @@ replied s c answer o e r = let P : Option Refusal → Type 0 = λ o. Replied s c
 
 pub step_refused : (s : State) (c : Call) (r : Refusal) → MayCome s c → refuses s c ≡ Some r → Step s c (reply.Refused r) s
 unfolding after
-step_refused s c r m e = record { allowed = record { may_come = m; replied = replied s c (reply.Refused r) (Some r) e refl }; new_is = refl }
+step_refused s c r m e = record { allowed = record { may_come = m; replied = replied s c (reply.Refused r) (Some r) e (inl refl) }; new_is = refl }
+
+-- want of memory to read a payload comes before the refusals that its file meets
+pub step_unread : (s : State) (c : Call) (r : Refusal) → MayCome s c → refuses s c ≡ Some r → is_load c ≡ true → is_of_payload r ≡ true → Step s c reply.NoMemory dead_state
+unfolding after
+step_unread s c r m e l p = record { allowed = record { may_come = m; replied = replied s c reply.NoMemory (Some r) e (inr (refl, l, p)) }; new_is = refl }
 
 pub step_dead : (s : State) (c : Call) → MayCome s c → refuses s c ≡ None → takes_memory s c ≡ true → Step s c reply.NoMemory dead_state
 unfolding after

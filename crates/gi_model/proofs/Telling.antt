@@ -124,6 +124,7 @@ answer_tells s call.Wait answer spent a h = told s call.Wait answer _ spent a (w
 answer_tells s call.Model answer spent a h = model_tells s answer spent s.solve h a
 answer_tells s call.Known answer spent a h = told s call.Known answer _ spent a (record { known_is = refl; spent_is = h })
 answer_tells s (call.KnownClause i) answer spent a h = told s (call.KnownClause i) answer _ spent a (record { known_is = refl; spent_is = h })
+answer_tells s (call.LoadCnf bytes) answer spent a h = told s (call.LoadCnf bytes) answer _ spent a (record { known_is = refl; spent_is = spent_edited s.solve spent h })
 answer_tells s call.Bye answer spent a h = told s call.Bye answer _ spent a (record { known_is = refl; spent_is = h })
 answer_tells s call.Shut answer spent a h = told s call.Shut answer _ spent a (record { known_is = refl; spent_is = h })
 answer_tells s (call.Work mark) answer spent a h = work_tells s mark answer spent (live_run s) refl h a
@@ -133,7 +134,8 @@ unfolding after
 allowed_tells s c answer spent a h = go (refuses s c) a.replied
   where
     go : (o : Option Refusal) → Replied s c answer o → AgreesOn s c answer spent
-    go (Some r) x = told s c answer (reply.Refused r) spent x (record { known_is = refl; spent_is = h })
+    go (Some r) (inl x) = told s c answer (reply.Refused r) spent x (record { known_is = refl; spent_is = h })
+    go (Some r) (inr x) = told s c answer reply.NoMemory spent x.0 (record { known_is = refl; spent_is = tt })
     go None (inr x) = told s c answer reply.NoMemory spent x.0 (record { known_is = refl; spent_is = tt })
     go None (inl x) = answer_tells s c answer spent x h
 

@@ -2,9 +2,10 @@
 use Rattle.std.specs.Prelude.{ℕ, ◌+◌, ◌-◌, ◌/◌, nat_lt, if◌then◌else◌, Option, Some, List, [], ◌∷◌, ◌++◌, length, take, drop}
 use Rattle.gi_lit.specs.Problem.{Problem, grown, with_clause, with_pair, with_guard, without_guard, without_var, top}
 use Rattle.gi_model.specs.Limits.{most_untrimmed}
+use Rattle.gi_model.specs.Loads.{loaded, with_file}
 use Rattle.gi_model.specs.State.{State, Found, listed, failing, Run, Solve, no_solve, running, paused, ended, shut, dead_state, live_run, all_assumed}
 use Rattle.gi_model.specs.declared.calls.Call.{Call}
-use Rattle.gi_model.specs.declared.calls.Call.TheVariants.{Vars, Add, NewGuard, Under, DropGuard, Assume, Test, Untest, Reasons, Solve as Start, Pause, Resume, Stop, Poll, Wait, Model, Known, KnownClause, Bye, Shut, Work}
+use Rattle.gi_model.specs.declared.calls.Call.TheVariants.{Vars, Add, NewGuard, Under, DropGuard, Assume, Test, Untest, Reasons, Solve as Start, Pause, Resume, Stop, Poll, Wait, Model, Known, KnownClause, LoadCnf, Bye, Shut, Work}
 use Rattle.gi_model.specs.declared.replies.Reply.{Reply}
 use Rattle.gi_model.specs.declared.replies.Reply.TheVariants as reply
 use Rattle.gi_model.specs.declared.replies.Now.{Now}
@@ -97,6 +98,7 @@ accepted s NewGuard answer = with_problem (with_guard s.problem) s
 accepted s (Under g c) answer = with_problem (with_pair g c s.problem) s
 accepted s (DropGuard g) answer = dropped g s
 accepted s (Assume ls) answer = assuming ls s
+accepted s (LoadCnf bytes) answer = with_problem (with_file (loaded bytes) s.problem) s
 accepted s Test answer = tested answer s
 accepted s Untest answer = untested s
 accepted s (Start budget) answer = started budget s

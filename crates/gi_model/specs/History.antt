@@ -1,6 +1,9 @@
 -- Legal histories, and the state after one.
-use Rattle.std.specs.Prelude.{◌≡◌, ℕ, ◌+◌, ◌-◌, ◌⊎◌, Bool, true, false, max, is_some, Option, Some, None, List, [], ◌∷◌, length, slice_index_or}
+use Rattle.std.specs.Prelude.{◌≡◌, ℕ, ◌+◌, ◌-◌, ◌⊎◌, Bool, true, false, max, is_some, Result, Option, Some, None, List, [], ◌∷◌, length, slice_index_or}
 use Rattle.gi_lit.specs.Problem.{next_guard}
+use Rattle.gi_dimacs.specs.Content.{File}
+use Rattle.gi_dimacs.specs.declared.fault.CnfFault.{CnfFault}
+use Rattle.gi_model.specs.Loads.{loaded, file_vars, file_clauses}
 use Rattle.gi_model.specs.State.{State, Solve, ended, opening, live_run}
 use Rattle.gi_model.specs.Fits.{fits}
 use Rattle.gi_model.specs.Replies.{status_of, waited, model_of}
@@ -9,10 +12,11 @@ use Rattle.gi_model.specs.Effects.{after, pausing, resuming, stopping}
 use Rattle.gi_model.specs.Work.{AnswersWork}
 use Rattle.gi_model.specs.Tests.{AnswersTest, AnswersReasons}
 use Rattle.gi_model.specs.declared.calls.Call.{Call}
-use Rattle.gi_model.specs.declared.calls.Call.TheVariants.{Vars, Add, NewGuard, Under, DropGuard, Assume, Test, Untest, Reasons, Solve as Start, Pause, Resume, Stop, Poll, Wait, Model, Known, KnownClause, Bye, Shut, Work}
+use Rattle.gi_model.specs.declared.calls.Call.TheVariants.{Vars, Add, NewGuard, Under, DropGuard, Assume, Test, Untest, Reasons, Solve as Start, Pause, Resume, Stop, Poll, Wait, Model, Known, KnownClause, LoadCnf, Bye, Shut, Work}
 use Rattle.gi_model.specs.declared.replies.Reply.{Reply}
 use Rattle.gi_model.specs.declared.replies.Reply.TheVariants as reply
 use Rattle.gi_model.specs.declared.refusal.Refusal.{Refusal}
+use Rattle.gi_model.specs.declared.refusal.Refusal.TheVariants as refusal
 use Rattle.gi_model.specs.declared.replies.Verdict.TheVariants.{Sat, Unsat}
 
 -- the calls that may come: those that fit, and work; a wait only where no solve is running
@@ -26,6 +30,10 @@ abbrev pub AnswersModel : State → Solve → Reply → Type 0
 AnswersModel s (ended n (Sat values)) answer = answer ≡ reply.Model (model_of s.problem values)
 AnswersModel s solve answer = ⊥
 
+-- what a load tells of its file
+abbrev pub loaded_reply : Result File CnfFault → Reply
+loaded_reply file = reply.LoadedCnf (file_vars file) (length (file_clauses file))
+
 -- the answers to a call that isn't refused, want of memory left out
 abbrev pub Answers : State → Call → Reply → Type 0
 Answers s (Vars k) answer = answer ≡ reply.Vars (max s.problem.vars k)
@@ -37,6 +45,7 @@ Answers s (Assume ls) answer = answer ≡ reply.Done
 Answers s Test answer = AnswersTest s answer
 Answers s Untest answer = answer ≡ reply.Done
 Answers s (Reasons m) answer = AnswersReasons s m answer
+Answers s (LoadCnf bytes) answer = answer ≡ loaded_reply (loaded bytes)
 Answers s (Start budget) answer = answer ≡ reply.Started (s.serial + 1)
 Answers s Pause answer = answer ≡ status_of (pausing s.solve)
 Answers s Resume answer = answer ≡ status_of (resuming s.solve)
@@ -70,9 +79,25 @@ takes_memory s Wait = wait_takes_memory s.solve
 takes_memory s (Work mark) = is_some (live_run s)
 takes_memory s call = true
 
+-- a call with a payload, which takes memory to read
+abbrev pub is_load : Call → Bool
+is_load (LoadCnf bytes) = true
+is_load call = false
+
+-- the refusals that are told of a load only once its payload was read
+abbrev pub is_of_payload : Refusal → Bool
+is_of_payload refusal.Lit = true
+is_of_payload refusal.Limit = true
+is_of_payload (refusal.Payload line gate code) = true
+is_of_payload r = false
+
+-- the answer where there is a refusal: it, or want of memory to read a payload in its place
+abbrev pub IsRefused : Call → Reply → Refusal → Type 0
+IsRefused call answer r = (answer ≡ reply.Refused r) ⊎ ((answer ≡ reply.NoMemory) × (is_load call ≡ true) × (is_of_payload r ≡ true))
+
 -- the reply to a call: the refusal where there is one, else an answer or want of memory
 abbrev pub Replied : State → Call → Reply → Option Refusal → Type 0
-Replied s call answer (Some r) = answer ≡ reply.Refused r
+Replied s call answer (Some r) = IsRefused call answer r
 Replied s call answer None = Answers s call answer ⊎ ((answer ≡ reply.NoMemory) × (takes_memory s call ≡ true))
 
 -- an entry that the state allows

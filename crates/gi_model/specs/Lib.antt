@@ -1,6 +1,7 @@
 pub mod Limits
 pub mod State
 pub mod Fits
+pub mod Loads
 pub mod Number
 pub mod Refusals
 pub mod Effects

@@ -21,6 +21,10 @@ most_pending = 1048576
 abbrev pub most_scopes : ℕ
 most_scopes = 65536
 
+-- bytes of a payload
+abbrev pub most_payload : ℕ
+most_payload = 16777216
+
 -- solves
 abbrev pub most_solves : ℕ
 most_solves = 2 ^ 56

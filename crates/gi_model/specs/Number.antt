@@ -1,6 +1,6 @@
 use Rattle.std.specs.Prelude.{ℕ}
 use Rattle.gi_model.specs.declared.refusal.Refusal.{Refusal}
-use Rattle.gi_model.specs.declared.refusal.Refusal.TheVariants.{Syntax, Long, Dead, Busy, Scoped, Lit, NotGuard, Held, Limit, NoScope, NotImplied, NoSolve, NoModel, NoClause}
+use Rattle.gi_model.specs.declared.refusal.Refusal.TheVariants.{Syntax, Long, Dead, Busy, Scoped, Lit, NotGuard, Held, Limit, NoScope, NotImplied, NoSolve, NoModel, NoClause, Payload}
 
 -- the refusals in the order in which their conditions are tried, but that Long goes before Syntax
 abbrev pub refusal_number : Refusal → ℕ
@@ -18,3 +18,4 @@ refusal_number NotImplied = 11
 refusal_number NoSolve = 12
 refusal_number NoModel = 13
 refusal_number NoClause = 14
+refusal_number (Payload line gate code) = 16

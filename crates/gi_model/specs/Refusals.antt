@@ -3,9 +3,10 @@ use Rattle.std.specs.Prelude.{ℕ, ◌+◌, ◌*◌, Bool, true, false, not, ◌
 use Rattle.std.specs.List.{list_any}
 use Rattle.gi_lit.specs.Problem.{Problem, has, is_usable, is_guard_lit, lit_count, clause_count, top}
 use Rattle.gi_model.specs.Limits.{most_vars, most_clauses, most_lits, most_pending, most_scopes, most_solves}
+use Rattle.gi_model.specs.Loads.{loaded, file_clauses, with_file, bad_payload}
 use Rattle.gi_model.specs.State.{State, Scope, Solve, no_solve, running, paused, ended, Life, alive, shut, dead, scope_listed}
 use Rattle.gi_model.specs.declared.calls.Call.{Call}
-use Rattle.gi_model.specs.declared.calls.Call.TheVariants.{Vars, Add, NewGuard, Under, DropGuard, Assume, Test, Untest, Reasons, Solve as Start, Pause, Resume, Stop, Poll, Wait, Model, Known, KnownClause, Bye, Shut, Work}
+use Rattle.gi_model.specs.declared.calls.Call.TheVariants.{Vars, Add, NewGuard, Under, DropGuard, Assume, Test, Untest, Reasons, Solve as Start, Pause, Resume, Stop, Poll, Wait, Model, Known, KnownClause, LoadCnf, Bye, Shut, Work}
 use Rattle.gi_model.specs.declared.refusal.Refusal.{Refusal}
 use Rattle.gi_model.specs.declared.refusal.Refusal.TheVariants as refusal
 use Rattle.gi_model.specs.declared.replies.Verdict.TheVariants.{Sat}
@@ -62,6 +63,7 @@ has_bad_lit p (Add c) = some_unusable p c
 has_bad_lit p (Under g c) = some_unusable p c
 has_bad_lit p (Assume ls) = list_any (λ l. not (is_usable p l || is_guard_lit p l)) ls
 has_bad_lit p (Reasons m) = not (is_usable p m)
+has_bad_lit p (LoadCnf bytes) = list_any (some_unusable p) (file_clauses (loaded bytes))
 has_bad_lit p call = false
 
 -- NotGuard: the named guard isn't active
@@ -86,6 +88,10 @@ is_held s call = false
 abbrev pub is_full : Problem → List ℕ → Bool
 is_full p c = nat_lt most_vars (top c) || nat_lt most_clauses (clause_count p + 1) || nat_lt most_lits (lit_count p + length c)
 
+-- the problem is greater than a machine may hold
+abbrev pub is_past : Problem → Bool
+is_past p = nat_lt most_vars p.vars || nat_lt most_clauses (clause_count p) || nat_lt most_lits (lit_count p)
+
 -- Limit: the call would pass a limit
 abbrev pub is_beyond : State → Call → Bool
 is_beyond s (Vars k) = nat_lt most_vars k
@@ -95,6 +101,7 @@ is_beyond s (Under g c) = is_full s.problem c
 is_beyond s (Assume ls) = nat_lt most_vars (top ls) || nat_lt most_pending (length s.pending + length ls)
 is_beyond s Test = nat_le most_scopes (length s.scopes)
 is_beyond s (Start budget) = nat_le most_solves s.serial
+is_beyond s (LoadCnf bytes) = is_past (with_file (loaded bytes) s.problem)
 is_beyond s call = false
 
 -- NoScope: no scope is open to be closed
@@ -138,7 +145,7 @@ abbrev pub lacks_clause : List (List ℕ) → Call → Bool
 lacks_clause known (KnownClause i) = (i == 0) || nat_lt (length known) i
 lacks_clause known call = false
 
--- the conditions of the refusals, in the order in which they are tried
+-- the conditions of the refusals but the last, in the order in which they are tried
 abbrev pub tests : State → Call → List (Bool × Refusal)
 tests s call =
     (is_over s.life, refusal.Dead)
@@ -155,10 +162,10 @@ tests s call =
     ∷ (lacks_clause s.known call, refusal.NoClause)
     ∷ []
 
--- the first whose condition holds
-abbrev pub first_of : List (Bool × Refusal) → Option Refusal
-first_of [] = None
-first_of (t ∷ ts) = if t.0 then Some t.1 else first_of ts
+-- the first whose condition holds, else the last
+abbrev pub first_of : List (Bool × Refusal) → Option Refusal → Option Refusal
+first_of [] last = last
+first_of (t ∷ ts) last = if t.0 then Some t.1 else first_of ts last
 
 abbrev pub is_work : Call → Bool
 is_work (Work mark) = true
@@ -166,4 +173,4 @@ is_work call = false
 
 -- the refusal that the state has for the call; work is never refused
 unfoldable pub refuses : State → Call → Option Refusal
-refuses s call = if is_work call then None else first_of (tests s call)
+refuses s call = if is_work call then None else first_of (tests s call) (bad_payload call)

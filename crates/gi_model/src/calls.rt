@@ -1,9 +1,13 @@
 ghost use Rattle.std.specs.Prelude.{◌≡◌};
 
 use gi_lit::{Lit, Lits, Var};
+use gi_text::Bytes;
+
+/// The most bytes that a payload has.
+pub const MAX_PAYLOAD: usize = 16_777_216;
 
 /// A call to the machine.
-#[derive(Debug, Drop)]
+#[derive(Drop)]
 pub enum Call {
     /// At least so many variables, from then on.
     Vars(u32),
@@ -41,6 +45,9 @@ pub enum Call {
     Known,
     /// The learnt clause of that number, from 1, the oldest first.
     KnownClause(u32),
+    /// The variables and clauses of a DIMACS CNF file of these bytes, as plain ones: all of them, or none
+    /// where the call is refused.
+    LoadCnf(Bytes),
     /// The caller takes its leave.
     Bye,
     /// Shuts the machine: every later call is refused.
@@ -52,11 +59,15 @@ pub enum Call {
 impl Call {
     ghost use Rattle.gi_model.specs.Fits.{fits};
 
-    /// Whether a caller may make this call: any but a solve with no budget, and but `Work`, which
-    /// the machine's own workers alone enter.
+    /// Whether a caller may make this call: any but a solve with no budget, a payload of more than
+    /// `MAX_PAYLOAD` bytes, and but `Work`, which the machine's own workers alone enter.
     pub fn fits(&self) -> bool
         ensures { result ≡ fits self.now }
     {
-        !matches!(self, Call::Solve(0) | Call::Work(_))
+        match self {
+            Call::Solve(0) | Call::Work(_) => false,
+            Call::LoadCnf(bytes) => bytes.as_slice().len() <= MAX_PAYLOAD,
+            _ => true,
+        }
     }
 }

@@ -11,7 +11,7 @@ mod replies;
 #[cfg(test)]
 mod tests;
 
-pub use calls::Call;
+pub use calls::{Call, MAX_PAYLOAD};
 pub use check::check_model;
 pub use entry::EntryRef;
 pub use laws::{
@@ -19,5 +19,5 @@ pub use laws::{
     reasons_show, refusals_are_named, solves_are_short,
 };
 pub use phase::Phase;
-pub use refusal::Refusal;
+pub use refusal::{PayloadCode, Refusal};
 pub use replies::{Cause, Now, Reply, Status, Verdict, Why};

@@ -1,5 +1,14 @@
 ghost use Rattle.std.specs.Prelude.{◌≡◌};
 
+use gi_dimacs::CnfCode;
+
+/// What is wrong with a payload.
+#[derive(Clone, Copy, Debug, PartialEq, Eq)]
+pub enum PayloadCode {
+    /// With one of DIMACS CNF.
+    Cnf(CnfCode),
+}
+
 /// Why a call was refused, in the order in which the conditions are tried; `Long` alone is tried
 /// before `Syntax`. A refusal changes nothing.
 #[derive(Clone, Copy, Debug, PartialEq, Eq)]
@@ -32,6 +41,13 @@ pub enum Refusal {
     NoModel,
     /// There is no learnt clause of that number.
     NoClause,
+    /// The payload isn't in its grammar: its first line that is wrong, counted from 1, and how. The gate is
+    /// 0 but for binary circuits.
+    Payload {
+        line: u64,
+        gate: u32,
+        code: PayloadCode,
+    },
 }
 
 impl Refusal {
@@ -56,6 +72,7 @@ impl Refusal {
             Refusal::NoSolve => 12,
             Refusal::NoModel => 13,
             Refusal::NoClause => 14,
+            Refusal::Payload { .. } => 16,
         }
     }
 }

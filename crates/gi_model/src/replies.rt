@@ -69,6 +69,8 @@ pub enum Reply {
     Known(u64),
     /// A learnt clause.
     Clause(Lits),
+    /// How many variables and clauses a file had that was loaded.
+    LoadedCnf { vars: u32, clauses: u32 },
     Bye,
     /// The clauses that a slice of work learnt, and how it leaves its solve.
     Worked { news: Clauses, now: Now },

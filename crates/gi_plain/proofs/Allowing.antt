@@ -2,7 +2,7 @@
 use Rattle.std.proofs.Common.{◌≡◌, ◌↔◌, Bool, true, IsTrue, Result, IfOk, Option, Some, None, sym, subst, ◌⊎◌, inl, inr}
 use Rattle.gi_model.specs.State.{State}
 use Rattle.gi_model.specs.Refusals.{refuses}
-use Rattle.gi_model.specs.History.{MayCome, Allows, Replied, Answers, takes_memory}
+use Rattle.gi_model.specs.History.{MayCome, Allows, Replied, Answers, IsRefused, takes_memory}
 use Rattle.gi_model.specs.declared.calls.Call.{Call}
 use Rattle.gi_model.specs.declared.replies.Reply.{Reply}
 use Rattle.gi_model.specs.declared.replies.Reply.TheVariants as reply
@@ -11,7 +11,7 @@ use Rattle.gi_plain.proofs.Deciding.{like, ok_like}
 
 module _ (s : State) (k : Call) (answer : Reply) (comes : MayCome s k) where
   -- where the table names a refusal, that one alone
-  pub allows_refusal : (r : Refusal) (b : Bool) → Some r ≡ refuses s k → IsTrue b ↔ (answer ≡ reply.Refused r) → IsTrue b ↔ Allows s k answer
+  pub allows_refusal : (r : Refusal) (b : Bool) → Some r ≡ refuses s k → IsTrue b ↔ IsRefused k answer r → IsTrue b ↔ Allows s k answer
   allows_refusal r b e d = like b d (λ q. record { may_come = comes; replied = subst (Replied s k answer) e q }) (λ a. subst (Replied s k answer) (sym e) a.replied)
 
   module _ (free : None ≡ refuses s k) where

@@ -41,12 +41,13 @@ unfolding after
 after_no_memory s k answer t e d = rw e d
 
 -- an answer that isn't a refusal is to a call that isn't refused
-pub not_refused : (s : State) (k : Call) (answer : Reply) → Allows s k answer → ((r : Refusal) → answer ≡ reply.Refused r → ⊥) → refuses s k ≡ None
-not_refused s k answer a n = go (refuses s k) a.replied
+pub not_refused : (s : State) (k : Call) (answer : Reply) → Allows s k answer → ((r : Refusal) → answer ≡ reply.Refused r → ⊥) → (answer ≡ reply.NoMemory → ⊥) → refuses s k ≡ None
+not_refused s k answer a n m = go (refuses s k) a.replied
   where
     go : (o : Option Refusal) → Replied s k answer o → o ≡ None
     go None h = refl
-    go (Some r) h = absurd (n r h)
+    go (Some r) (inl h) = absurd (n r h)
+    go (Some r) (inr h) = absurd (m h.0)
 
 pub after_accepted : (s : State) (k : Call) (answer : Reply) → ((r : Refusal) → answer ≡ reply.Refused r → ⊥) → (answer ≡ reply.NoMemory → ⊥) → after s k answer ≡ accepted s k answer
 unfolding after

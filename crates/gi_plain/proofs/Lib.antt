@@ -1,4 +1,5 @@
 pub mod Table
+pub mod Loading
 pub mod Levels
 pub mod Counting
 pub mod Deciding

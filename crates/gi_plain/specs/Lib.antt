@@ -4,3 +4,5 @@ pub mod Lacking
 pub mod Search
 pub mod Ends
 pub mod Waits
+pub mod Loading
+pub mod Rest

@@ -2,7 +2,7 @@ ghost use Rattle.std.specs.Prelude.{◌≡◌, ◌+◌, ◌-◌, ◌↔◌, IsTr
 ghost use Rattle.gi_model.specs.State.{live_run};
 ghost use Rattle.gi_model.specs.Replies.{status_of, waited};
 ghost use Rattle.gi_model.specs.Effects.{pausing, resuming, stopping};
-ghost use Rattle.gi_model.specs.History.{MayCome, AnswersModel, Answers, wait_takes_memory, takes_memory, Allows};
+ghost use Rattle.gi_model.specs.History.{MayCome, AnswersModel, Answers, IsRefused, is_load, is_of_payload, wait_takes_memory, takes_memory, Allows};
 ghost use Rattle.gi_plain.specs.View.{solve_of};
 ghost use Rattle.gi_plain.specs.Waits.{is_wait};
 
@@ -22,6 +22,28 @@ fn is_wait(call: &Call) -> bool
 {
     match call {
         Call::Wait => true,
+        _ => false,
+    }
+}
+
+/// Whether the call has a payload.
+fn is_load(call: &Call) -> bool
+    ensures { result ≡ is_load call.now }
+{
+    match call {
+        Call::LoadCnf(_) => true,
+        _ => false,
+    }
+}
+
+/// Whether the refusal is told of a load only once its payload was read.
+fn is_of_payload(refusal: Refusal) -> bool
+    ensures { result ≡ is_of_payload refusal }
+{
+    match refusal {
+        Refusal::Lit => true,
+        Refusal::Limit => true,
+        Refusal::Payload { .. } => true,
         _ => false,
     }
 }
@@ -193,6 +215,13 @@ impl Plain {
         Ok(is_clause(reply, &clause))
     }
 
+    /// Whether the answer tells the refusal, or is want of memory to read a payload in its place.
+    fn is_refused(call: &Call, reply: &Reply, refusal: Refusal) -> bool
+        ensures { IsTrue result ↔ IsRefused call.now reply.now refusal }
+    {
+        is_refusal(reply, refusal) || is_no_memory(reply) && is_load(call) && is_of_payload(refusal)
+    }
+
     /// Whether a call that isn't refused may be answered so, want of memory left out.
     fn answers(&self, call: &Call, reply: &Reply) -> Result<bool, AllocError>
         ensures { IfOk result (λ b. IsTrue b ↔ Answers self.now call.now reply.now) }
@@ -216,6 +245,7 @@ impl Plain {
             Call::Model => self.answers_model(reply),
             Call::Known => Ok(is_known(reply, self.known.len() as u64)),
             Call::KnownClause(i) => self.answers_clause(*i, reply),
+            Call::LoadCnf(bytes) => self.answers_load(bytes, reply),
             Call::Bye => Ok(is_bye(reply)),
             Call::Shut => Ok(is_done(reply)),
             Call::Work(mark) => self.answers_work(*mark, reply),
@@ -231,8 +261,8 @@ impl Plain {
         if !self.may_come(call) {
             return Ok(false);
         }
-        match self.refusal(call) {
-            Some(refusal) => Ok(is_refusal(reply, refusal)),
+        match self.refusal(call)? {
+            Some(refusal) => Ok(Plain::is_refused(call, reply, refusal)),
             None => {
                 if self.wants_memory(call, reply) {
                     return Ok(true);

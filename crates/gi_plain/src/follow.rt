@@ -134,6 +134,7 @@ impl Plain {
             Call::Model => Ok(()),
             Call::Known => Ok(()),
             Call::KnownClause(_) => Ok(()),
+            Call::LoadCnf(bytes) => self.load(bytes),
             Call::Bye => Ok(()),
         }
     }

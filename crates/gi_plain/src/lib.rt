@@ -7,6 +7,7 @@ mod follow;
 mod learning;
 mod listing;
 mod lists;
+mod loads;
 mod machine;
 mod outcome;
 mod reasons;

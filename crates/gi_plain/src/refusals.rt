@@ -1,4 +1,6 @@
-ghost use Rattle.std.specs.Prelude.{◌≡◌, ◌+◌, ◌&&◌, ◌↔◌, nat_lt, not, IsTrue};
+ghost use Rattle.std.specs.Prelude.{◌≡◌, ◌+◌, ◌&&◌, ◌↔◌, nat_lt, not, false, true, IsTrue, IfOk};
+ghost use Rattle.gi_model.specs.History.{is_load};
+ghost use Rattle.gi_plain.specs.Rest.{is_at_rest};
 ghost use Rattle.std.specs.List.{list_any};
 ghost use Rattle.gi_lit.specs.Problem.{has};
 ghost use Rattle.gi_model.specs.Limits.{most_pending};
@@ -12,6 +14,7 @@ use crate::scopes::lists;
 use crate::solves::{Flag, Task};
 use gi_lit::{MAX_VAR, top_variable};
 use gi_model::{Call, Refusal, Verdict};
+use std::alloc::AllocError;
 
 /// What a running solve admits.
 fn while_running(call: &Call) -> bool
@@ -92,13 +95,25 @@ impl Plain {
         }
     }
 
-    fn is_over(&self) -> bool
+    pub(crate) fn is_over(&self) -> bool
         ensures { result ≡ is_over self.now.life }
     {
         match self.flag {
             Flag::Alive => false,
             Flag::Shut => true,
             Flag::Dead => true,
+        }
+    }
+
+    /// Whether no solve is under way.
+    pub(crate) fn is_at_rest(&self) -> bool
+        ensures { result ≡ is_at_rest self.now.solve }
+    {
+        match &self.task {
+            Task::Idle => true,
+            Task::Ended(_, _) => true,
+            Task::Paused(_) => false,
+            Task::Running(_) => false,
         }
     }
 
@@ -123,6 +138,7 @@ impl Plain {
     }
 
     fn has_bad_lit(&self, call: &Call) -> bool
+        requires { is_load call.now ≡ false }
         ensures { result ≡ has_bad_lit self.now.problem call.now }
     {
         match call {
@@ -161,6 +177,7 @@ impl Plain {
     }
 
     fn is_beyond(&self, call: &Call) -> bool
+        requires { is_load call.now ≡ false }
         ensures { result ≡ is_beyond self.now call.now }
     {
         match call {
@@ -234,8 +251,20 @@ impl Plain {
         }
     }
 
-    /// The refusal that the table names: the first whose condition holds.
-    pub fn refusal(&self, call: &Call) -> Option<Refusal>
+    /// The refusal that the table names: the first whose condition holds. A payload is read where a
+    /// condition speaks of it.
+    pub fn refusal(&self, call: &Call) -> Result<Option<Refusal>, AllocError>
+        ensures { IfOk result (λ r. r ≡ refuses self.now call.now) }
+    {
+        match call {
+            Call::LoadCnf(bytes) => self.load_refusal(bytes),
+            _ => Ok(self.plain_refusal(call)),
+        }
+    }
+
+    /// The refusal of a call without a payload.
+    fn plain_refusal(&self, call: &Call) -> Option<Refusal>
+        requires { is_load call.now ≡ false }
         ensures { result ≡ refuses self.now call.now }
     {
         if is_work(call) {
@@ -267,6 +296,7 @@ impl Plain {
 
     /// The refusals for what isn't there.
     fn lacks(&self, call: &Call) -> Option<Refusal>
+        requires { is_load call.now ≡ false }
         ensures { result ≡ lacking self.now call.now }
     {
         if self.lacks_scope(call) {

@@ -46,6 +46,19 @@ pub fn is_vars(reply: &Reply, count: u32) -> bool
     }
 }
 
+/// Whether the answer is that a file of so many variables and clauses was loaded.
+pub fn is_loaded(reply: &Reply, vars: u32, clauses: usize) -> bool
+    ensures { IsTrue result ↔ (reply.now ≡ Reply.LoadedCnf vars clauses) }
+{
+    match reply {
+        Reply::LoadedCnf {
+            vars: n,
+            clauses: count,
+        } => *n == vars && *count as usize == clauses,
+        _ => false,
+    }
+}
+
 pub fn is_guard(reply: &Reply, index: u32) -> bool
     ensures { IsTrue result ↔ (reply.now ≡ Reply.Guard index) }
 {

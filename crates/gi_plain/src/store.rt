@@ -1,12 +1,13 @@
-ghost use Rattle.std.specs.Prelude.{◌≡◌, ◌+◌, ◌/◌, ◌<◌, ◌≤◌, ◌==◌, ◌&&◌, ◌||◌, not, nat_le, nat_lt, length, false, List, ℕ, IfOk, OnOk, IfSome, IfNone, sum_by, [], ◌∷◌, ◌++◌};
+ghost use Rattle.std.specs.Prelude.{◌≡◌, ◌+◌, ◌/◌, ◌<◌, ◌≤◌, ◌==◌, ◌&&◌, ◌||◌, not, max, nat_le, nat_lt, length, false, List, ℕ, IfOk, OnOk, IfSome, IfNone, sum_by, [], ◌∷◌, ◌++◌};
 ghost use Rattle.std.specs.List.{list_any, list_all};
-ghost use Rattle.gi_lit.specs.Problem.{Pair, lit_count, has, is_problem_var, is_usable, is_guard_lit, empty_problem, grown, with_clause, with_pair, with_guard, next_guard, without_guard, without_pairs, guarded, full, force, forced};
-ghost use Rattle.gi_model.specs.Limits.{most_vars, most_lits};
-ghost use Rattle.gi_model.specs.Refusals.{some_unusable, is_full};
+ghost use Rattle.gi_lit.specs.Problem.{Pair, clause_count, lit_count, has, is_problem_var, is_usable, is_guard_lit, empty_problem, grown, with_clause, with_clauses, with_pair, with_guard, next_guard, without_guard, without_pairs, guarded, full, force, forced};
+ghost use Rattle.gi_model.specs.Limits.{most_vars, most_clauses, most_lits};
+ghost use Rattle.gi_model.specs.Refusals.{some_unusable, is_full, is_past};
+ghost use Rattle.gi_plain.specs.Loading.{tops};
 ghost use Rattle.gi_model.specs.Replies.{model_from, model_of};
 
 use crate::lists::{append_copies, has_lit, has_var, without};
-use gi_lit::{Clause, Lit, Lits, MAX_VAR, Var, top_variable};
+use gi_lit::{Clause, Clauses, Lit, Lits, MAX_VAR, Var, top_variable};
 use std::alloc::{AllocError, Global};
 use std::marker::Model;
 use std::mem;
@@ -70,6 +71,17 @@ fn left_by_pairs(pairs: &[Guarded], room: u64) -> Option<u64>
         left = left.checked_sub(pair.clause.len() as u64)?;
     }
     Some(left)
+}
+
+/// The greatest variable of clauses, 0 for none.
+fn top_of_all(clauses: &[Clause]) -> u32
+    ensures { result ≡ tops clauses.now }
+{
+    let mut top = 0u32;
+    for clause in clauses {
+        top = top.max(top_variable(clause.as_slice()));
+    }
+    top
 }
 
 /// The pairs of other guards, in order.
@@ -183,6 +195,67 @@ impl Store {
     {
         let clauses = self.plain.len() as u128 + self.pairs.len() as u128 + 1;
         top_variable(clause) > MAX_VAR || clauses > 4_194_304 || self.lacks_lits(clause.len())
+    }
+
+    /// Whether some literal of the clauses is neither of a problem variable nor of one that isn't there yet.
+    pub fn some_have_unusable(&self, clauses: &Clauses) -> bool
+        ensures { result ≡ list_any (some_unusable self.now) clauses.now }
+    {
+        clauses
+            .as_slice()
+            .iter()
+            .any(|c| self.some_unusable(c.as_slice()))
+    }
+
+    /// Whether the problem would be too great with so many variables and these clauses.
+    pub fn is_past_with(&self, vars: u32, clauses: &Clauses) -> bool
+        ensures { result ≡ is_past (with_clauses clauses.now (grown vars self.now)) }
+    {
+        if self.has_too_many_vars(vars, clauses.as_slice()) {
+            return true;
+        }
+        if self.has_too_many_clauses(clauses.len()) {
+            return true;
+        }
+        self.lacks_lits_of(clauses.as_slice())
+    }
+
+    /// Whether there would be too many variables.
+    fn has_too_many_vars(&self, vars: u32, clauses: &[Clause]) -> bool
+        ensures { result ≡ nat_lt most_vars (max (max self.now.vars vars) (tops clauses.now)) }
+    {
+        self.vars.max(vars).max(top_of_all(clauses)) > MAX_VAR
+    }
+
+    /// Whether so many clauses more would be too many.
+    fn has_too_many_clauses(&self, count: usize) -> bool
+        ensures { result ≡ nat_lt most_clauses (clause_count self.now + count) }
+    {
+        self.plain.len() as u128 + self.pairs.len() as u128 + count as u128 > 4_194_304
+    }
+
+    /// Whether the literals of these clauses more would be too many.
+    fn lacks_lits_of(&self, clauses: &[Clause]) -> bool
+        ensures { result ≡ nat_lt most_lits (lit_count self.now + sum_by length clauses.now) }
+    {
+        let room = match left_by_clauses(clauses, 67_108_864) {
+            Some(room) => room,
+            None => return true,
+        };
+        match left_by_clauses(self.plain.as_slice(), room) {
+            Some(left) => left_by_pairs(self.pairs.as_slice(), left).is_none(),
+            None => true,
+        }
+    }
+
+    /// Plain clauses more.
+    pub fn add_all(&mut self, clauses: &Clauses) -> Result<(), AllocError>
+        ensures { OnOk result (self.new ≡ with_clauses clauses.now self.old) }
+    {
+        for clause in clauses.as_slice() {
+            self.add(clause)?;
+        }
+        Ok(())
     }
 
     /// Whether so many literals more would be too many.

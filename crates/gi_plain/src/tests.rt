@@ -1,6 +1,8 @@
 use crate::Plain;
+use gi_dimacs::CnfCode;
 use gi_lit::{Assign, Clauses, Lit, Lits, Var, top_variable};
-use gi_model::{Call, Cause, Now, Refusal, Reply, Status, Verdict, Why};
+use gi_model::{Call, Cause, Now, PayloadCode, Refusal, Reply, Status, Verdict, Why};
+use gi_text::Bytes;
 use std::alloc::{AllocError, Global};
 use std::test::Fail;
 
@@ -494,20 +496,63 @@ fn sessions(rt: HostRuntime) -> Result<(), Fail> {
 fn refusals_of_a_new_machine(rt: HostRuntime) -> Result<(), Fail> {
     let plain = Plain::new(rt.alloc());
     let l = Lit::from_dimacs(1).ok_or("a literal")?;
-    assert_eq!(rt; plain.refusal(&Call::Vars(0)), None);
-    assert_eq!(rt; plain.refusal(&Call::Vars(1_048_577)), Some(Refusal::Limit));
-    assert_eq!(rt; plain.refusal(&Call::Reasons(l)), Some(Refusal::NotImplied));
+    assert_eq!(rt; plain.refusal(&Call::Vars(0))?, None);
     assert_eq!(rt;
-        plain.refusal(&Call::DropGuard(l.var())),
+        plain.refusal(&Call::Vars(1_048_577))?,
+        Some(Refusal::Limit)
+    );
+    assert_eq!(rt;
+        plain.refusal(&Call::Reasons(l))?,
+        Some(Refusal::NotImplied)
+    );
+    assert_eq!(rt;
+        plain.refusal(&Call::DropGuard(l.var()))?,
         Some(Refusal::NotGuard)
     );
-    assert_eq!(rt; plain.refusal(&Call::Untest), Some(Refusal::NoScope));
-    assert_eq!(rt; plain.refusal(&Call::Poll), Some(Refusal::NoSolve));
-    assert_eq!(rt; plain.refusal(&Call::Model), Some(Refusal::NoModel));
+    assert_eq!(rt; plain.refusal(&Call::Untest)?, Some(Refusal::NoScope));
+    assert_eq!(rt; plain.refusal(&Call::Poll)?, Some(Refusal::NoSolve));
+    assert_eq!(rt; plain.refusal(&Call::Model)?, Some(Refusal::NoModel));
     assert_eq!(rt;
-        plain.refusal(&Call::KnownClause(1)),
+        plain.refusal(&Call::KnownClause(1))?,
         Some(Refusal::NoClause)
     );
-    assert_eq!(rt; plain.refusal(&Call::Work(0)), None);
+    assert_eq!(rt; plain.refusal(&Call::Work(0))?, None);
+    Ok(())
+}
+
+/// The answer to a file of this text, in a state that the entry before leads to.
+fn loads(plain: &Plain, alloc: Global, text: &[u8], reply: &Reply) -> Result<bool, AllocError> {
+    plain.allows(&Call::LoadCnf(Bytes::of(alloc, text)?), reply)
+}
+
+const TWO_CLAUSES: &[u8] = b"p cnf 2 2\n1 2 0\n-1 0\n";
+
+const BAD_WORD: &[u8] = b"p cnf 2 1\n1 x 0\n";
+
+#[test]
+fn files_are_loaded(rt: HostRuntime) -> Result<(), Fail> {
+    let alloc = rt.alloc();
+    let mut plain = Plain::new(alloc);
+    let two = Reply::LoadedCnf {
+        vars: 2,
+        clauses: 2,
+    };
+    let bad = Reply::Refused(Refusal::Payload {
+        line: 2,
+        gate: 0,
+        code: PayloadCode::Cnf(CnfCode::Word),
+    });
+    let busy = Reply::Refused(Refusal::Busy);
+    assert!(rt; loads(&plain, alloc, TWO_CLAUSES, &two)?);
+    assert!(rt; !loads(&plain, alloc, TWO_CLAUSES, &bad)?);
+    assert!(rt; loads(&plain, alloc, BAD_WORD, &bad)?);
+    assert!(rt; loads(&plain, alloc, BAD_WORD, &Reply::NoMemory)?);
+    assert!(rt; !loads(&plain, alloc, BAD_WORD, &two)?);
+    let call = Call::LoadCnf(Bytes::of(alloc, TWO_CLAUSES)?);
+    assert!(rt; plain.step(&call, &two)?);
+    assert!(rt; plain.step(&Call::Vars(0), &Reply::Vars(2))?);
+    assert!(rt; plain.step(&Call::Solve(5), &Reply::Started(1))?);
+    assert!(rt; loads(&plain, alloc, BAD_WORD, &busy)?);
+    assert!(rt; !loads(&plain, alloc, BAD_WORD, &Reply::NoMemory)?);
     Ok(())
 }

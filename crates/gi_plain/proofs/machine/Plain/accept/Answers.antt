@@ -17,6 +17,11 @@ make_guard-requires c =
     let P : Call → Type 0 = λ k. is_work k ≡ false → refuses c.args.self.now k ≡ None in
     (accepted_facts c.args.self.now call.NewGuard refl (subst P c.in-NewGuard.is c.requires.free refl)).within
 
+pub load-requires : goal.load-requires
+load-requires c =
+    let P : Call → Type 0 = λ k. is_work k ≡ false → refuses c.args.self.now k ≡ None in
+    (accepted_facts c.args.self.now (call.LoadCnf c.in-LoadCnf.bytes) refl (subst P c.in-LoadCnf.is c.requires.free refl)).within
+
 pub start-requires : goal.start-requires
 start-requires c =
     let P : Call → Type 0 = λ k. is_work k ≡ false → refuses c.args.self.now k ≡ None in

@@ -1,5 +1,5 @@
-use Rattle.std.proofs.Common.{refl}
-use Rattle.gi_plain.proofs.Table.{is_rest}
+use Rattle.std.proofs.Common.{refl, sym}
+use Rattle.gi_plain.proofs.Table.{is_rest, no_payload}
 use Rattle.gi_plain.proofs.machine.Plain.lacks.Goals as goal
 
 pub returns-then-lacks_scope : goal.returns-then-lacks_scope
@@ -18,4 +18,4 @@ pub returns-then-lacks_clause : goal.returns-then-lacks_clause
 returns-then-lacks_clause c = rw (is_rest c.args.self.now c.args.call.now, ← c.if-lacks_scope.ensures, ← c.if-is_unlisted.ensures, ← c.if-lacks_solve.ensures, ← c.if-lacks_model.ensures, ← c.if-lacks_clause.ensures) refl
 
 pub returns : goal.returns
-returns c = rw (is_rest c.args.self.now c.args.call.now, ← c.if-lacks_scope.ensures, ← c.if-is_unlisted.ensures, ← c.if-lacks_solve.ensures, ← c.if-lacks_model.ensures, ← c.if-lacks_clause.ensures) refl
+returns c = rw (is_rest c.args.self.now c.args.call.now, ← c.if-lacks_scope.ensures, ← c.if-is_unlisted.ensures, ← c.if-lacks_solve.ensures, ← c.if-lacks_model.ensures, ← c.if-lacks_clause.ensures) (sym (no_payload c.args.call.now c.requires))

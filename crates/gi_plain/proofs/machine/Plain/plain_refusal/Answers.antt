@@ -1,6 +1,6 @@
 use Rattle.std.proofs.Common.{refl}
 use Rattle.gi_plain.proofs.Table.{is_table}
-use Rattle.gi_plain.proofs.machine.Plain.refusal.Goals as goal
+use Rattle.gi_plain.proofs.machine.Plain.plain_refusal.Goals as goal
 
 pub returns-then-is_work : goal.returns-then-is_work
 returns-then-is_work c = rw (is_table c.args.self.now c.args.call.now, ← c.if-is_work.ensures) refl
