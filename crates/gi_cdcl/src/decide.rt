@@ -11,6 +11,9 @@ use gi_prop::Trail;
 use gi_store::Store;
 use std::alloc::{AllocError, Global};
 
+// The most variables that are remembered of learnt clauses, but for the last clause.
+const MOST_RECENT: usize = 1024;
+
 /// The variable behind `i` others.
 fn variable(i: u32) -> Var
     requires { i < 1048576 }
@@ -53,14 +56,61 @@ fn candidate(store: &Store, trail: &Trail, v: Var, phase: bool) -> Option<Lit>
     }
 }
 
-/// A literal to decide, of the least variable that has no value, where the first `passed` variables are known to have one; its phase is the last
-/// value. None exactly where all that is in use has a value. Counts the variables that have.
+/// A literal to decide, of the newest variable that has no value.
+fn newest_free(store: &Store, trail: &Trail, phases: &[bool], recent: &[Var]) -> Option<Lit>
+    ensures { IfSome result (λ l. (l / 2 ≤ trail.now.vars) × HasValue trail.now.lits l None) }
+{
+    let vars = trail.vars();
+    for place in 0..recent.len() {
+        let v = recent[recent.len() - 1 - place];
+        if v.index() as usize <= vars {
+            let free = candidate(store, trail, v, phase_of(phases, v));
+            if free.is_some() {
+                return free;
+            }
+        }
+    }
+    None
+}
+
+/// Remembers the variables of a learnt clause as the newest, and forgets the oldest where there are many. For want of memory it remembers fewer.
+pub(crate) fn remember(recent: &mut Vec<Var>, clause: &[Lit]) {
+    if recent.len() >= MOST_RECENT {
+        let half = recent.len() / 2;
+        recent.rotate_left(half);
+        recent.truncate(half);
+    }
+    for l in clause {
+        if recent.push(l.var()).is_err() {
+            return;
+        }
+    }
+}
+
+/// A literal to decide: of the newest variable that has no value, else of the least, where the first `passed` variables are known to have one. None
+/// exactly where all that is in use has a value.
 pub(crate) fn free_literal(
     store: &Store,
     trail: &Trail,
     phases: &[bool],
+    recent: &[Var],
     passed: &mut u32,
 ) -> Option<Lit>
+    requires vars { store.now.vars ≤ trail.now.vars }
+    requires passed { IsPassed store.now trail.now.lits passed.old }
+    ensures free { IfSome result (λ l. (l / 2 ≤ trail.now.vars) × HasValue trail.now.lits l None) }
+    ensures full { IfNone result (AllAssigned store.now trail.now.lits) }
+    ensures passed { IsPassed store.now trail.now.lits passed.new }
+{
+    match newest_free(store, trail, phases, recent) {
+        Some(l) => Some(l),
+        None => least_free(store, trail, phases, passed),
+    }
+}
+
+/// A literal to decide, of the least variable that has no value, where the first `passed` variables are known to have one; its phase is the last
+/// value. None exactly where all that is in use has a value. Counts the variables that have.
+fn least_free(store: &Store, trail: &Trail, phases: &[bool], passed: &mut u32) -> Option<Lit>
     requires vars { store.now.vars ≤ trail.now.vars }
     requires passed { IsPassed store.now trail.now.lits passed.old }
     ensures free { IfSome result (λ l. (l / 2 ≤ trail.now.vars) × HasValue trail.now.lits l None) }

@@ -45,6 +45,7 @@ impl Search {
             trail: Trail::new(alloc),
             prop: Prop::new(alloc),
             phases: Vec::new(alloc),
+            recent: Vec::new(alloc),
             vars_passed: 0,
             assumed_passed: 0,
         };

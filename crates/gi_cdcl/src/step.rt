@@ -44,6 +44,7 @@ fn decide_variable(engine: &mut Engine, store: &Store) -> Result<Step, AllocErro
         store,
         &engine.trail,
         &engine.phases,
+        engine.recent.as_slice(),
         &mut engine.vars_passed,
     ) {
         Some(l) => {

@@ -193,7 +193,7 @@ drop_nil : {X : Type 0} (n : ℕ) → drop {A = X} n [] ≡ []
 drop_nil zero = refl
 drop_nil (suc n) = refl
 
-drop_all : {X : Type 0} (n : ℕ) (xs : List X) → length xs ≤ n → drop n xs ≡ []
+pub drop_all : {X : Type 0} (n : ℕ) (xs : List X) → length xs ≤ n → drop n xs ≡ []
 drop_all n [] le = drop_nil n
 drop_all zero (x ∷ xs) le = absurd (omega arith)
 drop_all (suc n) (x ∷ xs) le = drop_all n xs (omega arith)

@@ -6,4 +6,6 @@ pub mod Opening
 pub mod Slices
 pub mod Models
 pub mod Folding
+pub mod Adding
+pub mod Filing
 pub mod Running

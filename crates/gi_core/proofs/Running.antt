@@ -1,17 +1,16 @@
 -- The steps of a machine are a legal history.
-use Rattle.std.proofs.Common.{◌≡◌, ℕ, ◌^◌, ◌≤◌, List, [], ◌∷◌, ◌++◌, refl, sym, ap, ◌∙◌, subst}
-use Rattle.std.specs.List.{All}
-use Rattle.gi_model.specs.State.{State, Run, Solve, opening}
+use Rattle.std.proofs.Common.{◌≡◌, ◌^◌, ◌≤◌, List, [], ◌∷◌, ◌++◌, sym, ap, ◌∙◌, subst}
+use Rattle.gi_model.specs.State.{State, opening}
 use Rattle.gi_model.specs.Effects.{after}
-use Rattle.gi_model.specs.History.{Entry, Step, Allows, IsLegal, IsLegalFrom, after_all}
+use Rattle.gi_model.specs.History.{Entry, Allows, IsLegalFrom, after_all}
 use Rattle.gi_model.specs.Kept.{IsKept}
-use Rattle.gi_model.specs.Told.{told_known, told_spent, HasSpent}
+use Rattle.gi_model.specs.Told.{told_spent, HasSpent}
 use Rattle.gi_model.specs.Laws.{KnownIsTold, SpentIsTold, GuardsAreClean, IsClean}
-use Rattle.gi_model.specs.Bound.{SolvesAreShort, IsQuiet, IsUnderWay}
+use Rattle.gi_model.specs.Bound.{SolvesAreShort, IsUnderWay}
 use Rattle.gi_model.specs.declared.calls.Call.TheVariants.{NewGuard, Solve as Start}
 use Rattle.gi_model.specs.declared.replies.Reply.TheVariants as reply
 use Rattle.gi_model.proofs.Histories.{histories_kept}
-use Rattle.gi_core.specs.Laws.{Runs, IsAfter, IsSound, IsTold, StepsAreLegal, StepsKeep, StepsTell, StepsGiveCleanGuards, SolvesStayShort}
+use Rattle.gi_core.specs.Laws.{Runs, StepsAreLegal, StepsKeep, StepsTell, StepsGiveCleanGuards, SolvesStayShort}
 
 runs_from : (es : List Entry) (s t : State) → Runs s es t → IsLegalFrom s es × (t ≡ after_all s es)
 unfolding after_all

@@ -5,5 +5,7 @@ pub mod Task
 pub mod View
 pub mod Ending
 pub mod Lacking
+pub mod Early
+pub mod Loads
 pub mod Luby
 pub mod Laws

@@ -1,19 +1,19 @@
 ghost use Rattle.std.specs.Prelude.{◌≡◌, None, true};
 ghost use Rattle.gi_model.specs.Fits.{fits};
 ghost use Rattle.gi_model.specs.History.{MayCome};
-ghost use Rattle.gi_model.specs.Refusals.{refuses};
+ghost use Rattle.gi_core.specs.Early.{early};
 ghost use Rattle.gi_core.specs.View.{state_of, IsWhole, Moves};
 
 use crate::machine::Machine;
 use gi_model::{Call, Reply};
 
 impl Machine {
-    /// Answers a call that isn't refused.
+    /// Answers a call that isn't refused before its payload is read.
     pub fn accept(&mut self, call: &Call) -> Reply
         requires whole { IsWhole self.old }
         requires fits { fits call.now ≡ true }
         requires comes { MayCome (state_of self.old) call.now }
-        requires free { refuses (state_of self.old) call.now ≡ None }
+        requires free { early (state_of self.old) call.now ≡ None }
         ensures { Moves self.old call.now result self.new }
     {
         match call {
@@ -35,6 +35,7 @@ impl Machine {
             Call::Model => self.model(),
             Call::Known => self.known(),
             Call::KnownClause(i) => self.clause(*i),
+            Call::LoadCnf(bytes) => self.load(bytes.as_slice()),
             Call::Bye => self.bye(),
             Call::Shut => self.shut(),
             Call::Work(_) => unreachable!(),

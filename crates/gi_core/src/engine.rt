@@ -1,5 +1,6 @@
 ghost use Rattle.std.specs.Prelude.{◌≡◌, ◌≢◌, ◌≤◌, ◌<◌, ◌/◌, ◌↔◌, [], false, drop, Contains, length, OnOk, IfOk, IsTrue};
-ghost use Rattle.gi_lit.specs.Problem.{grown, with_clause, with_pair, with_guard, next_guard, without_guard, without_var, clause_count};
+ghost use Rattle.std.specs.List.{list_any};
+ghost use Rattle.gi_lit.specs.Problem.{grown, with_clause, with_clauses, with_pair, with_guard, next_guard, without_guard, without_var, clause_count, IsWellFormed};
 ghost use Rattle.gi_store.specs.Held.{IsWithin};
 ghost use Rattle.gi_model.specs.Effects.{trimmed};
 ghost use Rattle.gi_model.specs.Refusals.{some_unusable};
@@ -9,7 +10,7 @@ ghost use Rattle.gi_core.specs.Slicing.{Advances, AreUsable};
 
 use crate::joining::{detach_naming, detach_oldest, put, put_under};
 use gi_cdcl::{Brake, Search, Slice, Sliced};
-use gi_lit::{Clauses, Lit, Var};
+use gi_lit::{Clause, Clauses, Lit, Var};
 use gi_prop::laws::edits_keep_goes;
 use gi_store::{NewGuard, Store, edits_are_of_the_problem};
 use std::alloc::{AllocError, Global};
@@ -68,6 +69,20 @@ impl Engine {
                 Err(e)
             }
         }
+    }
+
+    /// At least so many variables, and then plain clauses more, one after another.
+    pub fn load(&mut self, vars: u32, clauses: &[Clause]) -> Result<(), AllocError>
+        requires vars { vars ≤ 1048576 }
+        requires whole { IsWellFormed self.old.problem }
+        requires usable { list_any (some_unusable self.old.problem) clauses.now ≡ false }
+        ensures { OnOk result (self.new ≡ record self.old { problem = with_clauses clauses.now (grown vars self.old.problem) }) }
+    {
+        self.grow(vars)?;
+        for clause in clauses {
+            self.add(clause.as_slice())?;
+        }
+        Ok(())
     }
 
     /// A clause more under an active guard.

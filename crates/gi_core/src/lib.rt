@@ -8,6 +8,7 @@ mod engine;
 mod joining;
 pub mod laws;
 mod lists;
+mod loading;
 mod looking;
 mod luby;
 mod machine;

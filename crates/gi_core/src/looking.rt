@@ -1,16 +1,28 @@
 //! What is read of an engine.
 
-ghost use Rattle.std.specs.Prelude.{◌≡◌, ◌+◌, ◌==◌, ◌&&◌, ◌||◌, not, nat_le, nat_lt, length, List, ℕ, option_copied};
-ghost use Rattle.std.specs.List.{list_any};
-ghost use Rattle.gi_lit.specs.Problem.{has, is_problem_var, is_usable, is_guard_lit, lit_count};
+ghost use Rattle.std.specs.Prelude.{◌≡◌, ◌+◌, ◌==◌, ◌&&◌, ◌||◌, ◌≤◌, not, nat_le, nat_lt, length, List, ℕ, option_copied};
+ghost use Rattle.std.specs.List.{list_any, sum_by};
+ghost use Rattle.gi_lit.specs.Problem.{has, is_problem_var, is_usable, is_guard_lit, clause_count, lit_count};
 ghost use Rattle.gi_store.specs.Held.{at_place};
-ghost use Rattle.gi_model.specs.Limits.{most_vars, most_lits};
+ghost use Rattle.gi_model.specs.Limits.{most_vars, most_clauses, most_lits};
 ghost use Rattle.gi_model.specs.Refusals.{some_unusable, is_full};
 ghost use Rattle.gi_core.specs.Content.{content_of};
 
 use crate::engine::Engine;
-use gi_lit::{Lit, MAX_VAR, Var, top_variable};
+use gi_lit::{Clause, Lit, MAX_VAR, Var, top_variable};
 use gi_store::{Store, VarKind};
+
+/// How many literals the clauses have.
+fn count_lits(clauses: &[Clause]) -> usize
+    requires { sum_by length clauses.now ≤ 67108864 }
+    ensures { result ≡ sum_by length clauses.now }
+{
+    let mut count = 0;
+    for clause in clauses {
+        count += clause.len();
+    }
+    count
+}
 
 impl Engine {
     /// Its store.
@@ -71,6 +83,31 @@ impl Engine {
         top_variable(clause) > MAX_VAR
             || self.store.problem() >= 4_194_304
             || self.lacks_lits(clause.len())
+    }
+
+    /// Whether some clause has a literal that isn't usable.
+    pub fn some_clause_unusable(&self, clauses: &[Clause]) -> bool
+        ensures { result ≡ list_any (some_unusable self.now.problem) clauses.now }
+    {
+        clauses.iter().any(|c| self.some_unusable(c.as_slice()))
+    }
+
+    /// Whether these clauses more would be too many, or have too many literals.
+    pub fn lacks_room(&self, clauses: &[Clause]) -> bool
+        requires { sum_by length clauses.now ≤ 67108864 }
+        ensures { result ≡ (nat_lt most_clauses (clause_count self.now.problem + length clauses.now) || nat_lt most_lits (lit_count self.now.problem + sum_by length clauses.now)) }
+    {
+        self.lacks_clauses(clauses.len()) || self.lacks_lits(count_lits(clauses))
+    }
+
+    /// Whether so many clauses more would be too many.
+    fn lacks_clauses(&self, count: usize) -> bool
+        ensures { result ≡ nat_lt most_clauses (clause_count self.now.problem + count) }
+    {
+        match self.store.problem().checked_add(count as u64) {
+            None => true,
+            Some(clauses) => clauses > 4_194_304,
+        }
     }
 
     /// Whether so many literals more would be too many.

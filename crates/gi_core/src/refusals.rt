@@ -1,9 +1,11 @@
-ghost use Rattle.std.specs.Prelude.{◌≡◌, ◌≤◌, ◌+◌, ◌&&◌, nat_lt, not, length};
+ghost use Rattle.std.specs.Prelude.{◌≡◌, ◌≤◌, ◌+◌, ◌&&◌, nat_lt, not, length, false};
 ghost use Rattle.std.specs.List.{list_any};
 ghost use Rattle.gi_lit.specs.Problem.{has};
 ghost use Rattle.gi_model.specs.Limits.{most_pending};
 ghost use Rattle.gi_model.specs.State.{listed_in};
-ghost use Rattle.gi_model.specs.Refusals.{refuses, is_over, admits, while_running, while_paused, is_scoped, has_bad_lit, is_not_guard, is_held, is_beyond, lacks_scope, is_unlisted, needs_solve, is_none_yet, lacks_model, lacks_clause, is_work, has_model};
+ghost use Rattle.gi_model.specs.Refusals.{is_over, admits, while_running, while_paused, is_scoped, has_bad_lit, is_not_guard, is_held, is_beyond, lacks_scope, is_unlisted, needs_solve, is_none_yet, lacks_model, lacks_clause, is_work, has_model};
+ghost use Rattle.gi_model.specs.History.{is_load};
+ghost use Rattle.gi_core.specs.Early.{early};
 ghost use Rattle.gi_core.specs.Lacking.{lacking};
 ghost use Rattle.gi_core.specs.View.{state_of};
 
@@ -70,6 +72,16 @@ fn is_work(call: &Call) -> bool
     }
 }
 
+/// The calls with a payload.
+fn is_load(call: &Call) -> bool
+    ensures { result ≡ is_load call.now }
+{
+    match call {
+        Call::LoadCnf(_) => true,
+        _ => false,
+    }
+}
+
 /// Whether two counts together are too many pending assumptions.
 fn too_many(a: usize, b: usize) -> bool
     ensures { result ≡ nat_lt most_pending (a + b) }
@@ -113,6 +125,7 @@ impl Machine {
     }
 
     fn has_bad_lit(&self, call: &Call) -> bool
+        requires { is_load call.now ≡ false }
         ensures { result ≡ has_bad_lit (state_of self.now).problem call.now }
     {
         match call {
@@ -151,7 +164,8 @@ impl Machine {
     }
 
     fn is_beyond(&self, call: &Call) -> bool
-        requires { length self.now.scopes.scopes ≤ 65536 }
+        requires scopes { length self.now.scopes.scopes ≤ 65536 }
+        requires unread { is_load call.now ≡ false }
         ensures { result ≡ is_beyond (state_of self.now) call.now }
     {
         match call {
@@ -226,10 +240,11 @@ impl Machine {
         }
     }
 
-    /// The refusal that the table names: the first whose condition holds.
+    /// The refusal that the table names: the first whose condition holds. Of a call with a payload, only those that come before the payload is
+    /// read.
     pub fn refusal(&self, call: &Call) -> Option<Refusal>
         requires { length self.now.scopes.scopes ≤ 65536 }
-        ensures { result ≡ refuses (state_of self.now) call.now }
+        ensures { result ≡ early (state_of self.now) call.now }
     {
         if is_work(call) {
             return None;
@@ -239,6 +254,9 @@ impl Machine {
         }
         if !self.admits(call) {
             return Some(Refusal::Busy);
+        }
+        if is_load(call) {
+            return None;
         }
         if self.is_scoped(call) {
             return Some(Refusal::Scoped);
@@ -260,7 +278,8 @@ impl Machine {
 
     /// The refusals for what isn't there.
     fn lacks(&self, call: &Call) -> Option<Refusal>
-        requires { length self.now.scopes.scopes ≤ 65536 }
+        requires scopes { length self.now.scopes.scopes ≤ 65536 }
+        requires unread { is_load call.now ≡ false }
         ensures { result ≡ lacking (state_of self.now) call.now }
     {
         if self.lacks_scope(call) {

@@ -55,7 +55,8 @@ impl Core {
     }
 
     /// Answers a call that fits; a wait only where no solve is running. The answer is the refusal that the table names, which changes nothing, or
-    /// else an answer to the call, or want of memory, which leaves a new machine that is dead.
+    /// else an answer to the call, or want of memory, which leaves a new machine that is dead. A file is loaded whole, or nothing of it is; it is read
+    /// first, so want of memory may come in the place of a refusal of what it says.
     pub fn step(&mut self, call: &Call) -> Reply
         requires fits { fits call.now ≡ true }
         requires wait { MayCome self.old call.now }

@@ -2,8 +2,12 @@ ghost use Rattle.std.specs.Prelude.{◌≡◌};
 
 use crate::Core;
 use gi_cdcl::Brake;
+use gi_dimacs::CnfCode;
 use gi_lit::{Lit, Lits, Var};
-use gi_model::{Call, Cause, Now, Phase, Reply, Status, Verdict, Why, calls_may_come};
+use gi_model::{
+    Call, Cause, Now, PayloadCode, Phase, Refusal, Reply, Status, Verdict, Why, calls_may_come,
+};
+use gi_text::Bytes;
 use std::alloc::Global;
 use std::test::Fail;
 
@@ -72,7 +76,15 @@ fn first(numbers: &[i32]) -> i32 {
     }
 }
 
-/// The calls with literals.
+/// The number that stands second, or 0.
+fn second(numbers: &[i32]) -> i32 {
+    match numbers.get(1) {
+        Some(n) => *n,
+        None => 0,
+    }
+}
+
+/// The calls with literals; any other word is the text of a file.
 fn call_with(alloc: Global, word: &str, numbers: &[i32]) -> Result<Call, Fail> {
     match word {
         "add" => Ok(Call::Add(lits(alloc, numbers)?)),
@@ -83,7 +95,7 @@ fn call_with(alloc: Global, word: &str, numbers: &[i32]) -> Result<Call, Fail> {
         },
         "drop" => Ok(Call::DropGuard(var(first(numbers))?)),
         "reasons" => Ok(Call::Reasons(Lit::from_dimacs(first(numbers)).ok_or("a literal")?)),
-        _ => Err("a call".into()),
+        text => Ok(Call::LoadCnf(Bytes::of(alloc, text.as_bytes())?)),
     }
 }
 
@@ -124,10 +136,19 @@ fn word_of(reply: &Reply) -> &'static str {
         Reply::Model(_) => "model",
         Reply::Known(_) => "known",
         Reply::Clause(_) => "clause",
+        Reply::LoadedCnf { .. } => "loaded",
         Reply::Bye => "bye",
+        Reply::Refused(Refusal::Payload { code, .. }) => code_word(*code),
         Reply::Refused(_) => "refused",
         Reply::NoMemory => "nomem",
         _ => "work",
+    }
+}
+
+fn code_word(code: PayloadCode) -> &'static str {
+    match code {
+        PayloadCode::Cnf(CnfCode::Word) => "no number",
+        PayloadCode::Cnf(_) => "a fault",
     }
 }
 
@@ -154,6 +175,12 @@ fn tells(reply: &Reply, numbers: &[i32]) -> bool {
         Reply::Vars(n) => *n == first(numbers).unsigned_abs(),
         Reply::Guard(g) => g.index() == first(numbers).unsigned_abs(),
         Reply::Known(n) => *n == u64::from(first(numbers).unsigned_abs()),
+        Reply::LoadedCnf { vars, clauses } => {
+            *vars == first(numbers).unsigned_abs() && *clauses == second(numbers).unsigned_abs()
+        }
+        Reply::Refused(Refusal::Payload { line, gate, .. }) => {
+            *line == u64::from(first(numbers).unsigned_abs()) && *gate == 0
+        }
         Reply::Refused(refusal) => u32::from(refusal.number()) == first(numbers).unsigned_abs(),
         _ => true,
     }
@@ -307,6 +334,26 @@ fn budgets_and_stops(rt: HostRuntime) -> Result<(), Fail> {
         ("solve", &[9], "started", &[]),
         ("wait", &[], "unsat", &[]),
         ("model", &[], "refused", &[13]),
+    ];
+    assert_eq!(rt; first_wrong(rt.alloc(), &rows)?, None);
+    Ok(())
+}
+
+#[test]
+fn loads(rt: HostRuntime) -> Result<(), Fail> {
+    let rows: [(&str, &[i32], &str, &[i32]); 12] = [
+        ("p cnf 2 1\n1 x 0\n", &[], "no number", &[2]),
+        ("vars", &[0], "vars", &[0]),
+        ("p cnf 2 2\n1 2 0\n-1 0\n", &[], "loaded", &[2, 2]),
+        ("solve", &[9], "started", &[]),
+        ("p cnf 0 0\n", &[], "refused", &[4]),
+        ("wait", &[], "sat", &[]),
+        ("model", &[], "model", &[-1, 2]),
+        ("p cnf 3 0\n", &[], "loaded", &[3, 0]),
+        ("model", &[], "refused", &[13]),
+        ("guard", &[], "guard", &[4]),
+        ("p cnf 9 2\n1 0\n5 4 0\n", &[], "refused", &[6]),
+        ("vars", &[0], "vars", &[4]),
     ];
     assert_eq!(rt; first_wrong(rt.alloc(), &rows)?, None);
     Ok(())

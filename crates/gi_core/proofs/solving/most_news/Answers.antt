@@ -1,4 +1,4 @@
-use Rattle.std.proofs.Common.{◌≡◌, ◌+◌, ◌*◌, ◌≤◌, min, arith}
+use Rattle.std.proofs.Common.{◌+◌, arith}
 use Rattle.gi_core.proofs.Folding.{luby_low}
 use Rattle.gi_core.proofs.solving.most_news.Goals as goal
 use Rattle.gi_core.proofs.solving.most_news.Goals.{then-pace-gt32, else-pace-gt32}

@@ -5,6 +5,7 @@ use Rattle.gi_model.specs.declared.replies.Reply.TheVariants as reply
 use Rattle.gi_model.proofs.Stepping.{step_refused}
 use Rattle.gi_core.specs.View.{state_of}
 use Rattle.gi_core.proofs.Moving.{moves_whole}
+use Rattle.gi_core.proofs.Table.{early_refuses}
 use Rattle.gi_core.proofs.shell.Core.step.Goals as goal
 
 pub invariant_of-self : goal.invariant_of-self
@@ -13,4 +14,4 @@ invariant_of-self c = moves_whole c.self.inside.machine c.accept.new.self c.args
 pub returns-in-Some : goal.returns-in-Some
 returns-in-Some c =
     let P : State → Type 0 = λ s. MayCome s c.args.call.now → Step s c.args.call.now (reply.Refused c.in-Some.refusal) s in
-    subst P c.self.view_is (λ w. step_refused (state_of c.self.inside.machine) c.args.call.now c.in-Some.refusal w (sym c.in-Some.ensures)) c.requires.wait
+    subst P c.self.view_is (λ w. step_refused (state_of c.self.inside.machine) c.args.call.now c.in-Some.refusal w (early_refuses (state_of c.self.inside.machine) c.args.call.now c.in-Some.refusal (sym c.in-Some.ensures))) c.requires.wait

@@ -1,6 +1,6 @@
 use Rattle.std.proofs.Common.{◌-◌}
 use Rattle.gi_cdcl.specs.Values.{IsPassed}
-use Rattle.gi_cdcl.proofs.decide.free_literal.Given as goal
+use Rattle.gi_cdcl.proofs.decide.least_free.Given as goal
 
 abbrev pub invariant-loop-passed : goal.invariant-loop-passed
 invariant-loop-passed l = IsPassed l.store l.trail.lits l.passed

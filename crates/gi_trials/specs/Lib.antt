@@ -1,0 +1,2 @@
+pub mod Braking
+pub mod Trying
