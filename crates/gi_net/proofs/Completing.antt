@@ -1,5 +1,5 @@
 -- A session that nothing disturbs is whole.
-use Rattle.std.proofs.Common.{◌≡◌, ◌≢◌, ◌<◌, ◌^◌, ◌⊎◌, inl, inr, List, [], ◌∷◌, ◌++◌, length, refl, subst, arith}
+use Rattle.std.proofs.Common.{◌≢◌, inl, inr, List, [], ◌∷◌, ◌++◌, refl, subst, arith}
 use Rattle.std.specs.List.{AllByRecursion}
 use Rattle.gi_outside.specs.World.{World}
 use Rattle.gi_model.specs.declared.replies.Reply.TheVariants as reply

@@ -1,10 +1,10 @@
 -- How a session ends.
-use Rattle.std.proofs.Common.{◌≡◌, ◌≢◌, ℕ, ◌^◌, ◌<◌, ◌≤◌, ◌⊎◌, inl, inr, List, [], ◌∷◌, ◌++◌, length, map, Some, None, Bool, true, false, refl, ap, sym, ◌∙◌, subst, arith}
+use Rattle.std.proofs.Common.{◌≡◌, ℕ, ◌^◌, ◌<◌, ◌≤◌, inl, inr, List, [], ◌∷◌, ◌++◌, length, map, Some, None, Bool, true, false, refl, ap, sym, ◌∙◌, subst, arith}
 use Rattle.std.specs.List.{AllByRecursion}
 use Rattle.std.proofs.lemmas.List.{append-nil}
 use Rattle.gi_outside.specs.Link.{Rose, ins, outs}
 use Rattle.gi_outside.specs.Told.{Adds, Takes}
-use Rattle.gi_outside.specs.World.{World, Wrote, WroteCut}
+use Rattle.gi_outside.specs.World.{World}
 use Rattle.gi_outside.proofs.Writing.{rose_since}
 use Rattle.gi_model.specs.History.{Entry}
 use Rattle.gi_model.specs.declared.calls.Call.{Call}
@@ -22,13 +22,12 @@ use Rattle.gi_wire.specs.declared.reader.Item.{Item}
 use Rattle.gi_net.specs.declared.how.How.{How}
 use Rattle.gi_net.specs.declared.how.How.TheVariants as how
 use Rattle.gi_net.specs.Answers.{Answer, answers, texts}
-use Rattle.gi_net.specs.Calls.{BreaksOff, IsReplyTo}
 use Rattle.gi_net.specs.Entries.{all_own_of, own_of, replies}
 use Rattle.gi_net.specs.Going.{Going, SoFar}
-use Rattle.gi_net.specs.Served.{CutInNoMemory, CutShort, Ends, EndsBy, EndsByBye, IsPrompt, IsQuiet}
+use Rattle.gi_net.specs.Served.{Ends, EndsBy, IsPrompt, IsQuiet}
 use Rattle.gi_net.specs.Session.{HasCause, IsWaitFirst, Session}
 use Rattle.gi_net.specs.Standing.{Standing}
-use Rattle.gi_net.specs.Told.{Answers, AnswersItem, Closes, TellsNoMemory, Told, ToldCut, TookAs, Unanswered, entry_of}
+use Rattle.gi_net.specs.Told.{Answers, AnswersItem, Closes, TellsNoMemory, Told, ToldCut, Unanswered, entry_of}
 use Rattle.gi_net.proofs.Answering.{All-append, given_more, texts_more}
 use Rattle.gi_net.proofs.Moving.{answered, broke_off, has_ended, wrote_on}
 use Rattle.gi_net.proofs.Works.{works-map}

@@ -1,6 +1,5 @@
 -- A session that goes on, step by step.
 use Rattle.std.proofs.Common.{◌≡◌, ◌⊎◌, ℕ, ◌+◌, ◌≤◌, List, [], ◌∷◌, ◌++◌, length, map, Option, Some, None, option_map, option_to_list, Bool, false, refl, ap, sym, ◌∙◌, subst, append_assoc, arith, length-append}
-use Rattle.std.specs.List.{AllByRecursion}
 use Rattle.std.proofs.lemmas.List.{append-nil, map-append, length-map}
 use Rattle.std.proofs.lemmas.List.Elements.{filter-append}
 use Rattle.gi_outside.specs.Link.{ins, outs}
@@ -16,17 +15,16 @@ use Rattle.gi_model.specs.declared.calls.Call.TheVariants as call
 use Rattle.gi_model.specs.declared.replies.Reply.{Reply}
 use Rattle.gi_wire.specs.Gives.{GivesItem, SameAhead}
 use Rattle.gi_wire.specs.Items.{items, items_from}
-use Rattle.gi_wire.specs.Source.{Comes, Source, ahead}
+use Rattle.gi_wire.specs.Source.{Source, ahead, goes_on}
 use Rattle.gi_wire.specs.declared.reader.Item.{Item}
-use Rattle.gi_net.specs.Answers.{Answer, answers, call_in, calls, texts}
+use Rattle.gi_net.specs.Answers.{answers, call_in, calls, texts}
 use Rattle.gi_net.specs.Calls.{BreaksOff}
 use Rattle.gi_net.specs.Entries.{WorksForWaits, all_own_of, own_of, replies}
 use Rattle.gi_net.specs.Going.{Going, SoFar}
-use Rattle.gi_net.specs.Served.{IsQuiet}
 use Rattle.gi_net.specs.Standing.{Standing}
 use Rattle.gi_net.specs.Told.{TookAs, Took, entry_of}
 use Rattle.gi_net.proofs.Works.{all_own_entry, own_entry, works_broken, works_taken}
-use Rattle.gi_net.proofs.Answering.{All-append, calls-append, calls_of_entry, given_more, replies_fit, texts_more}
+use Rattle.gi_net.proofs.Answering.{calls-append, calls_of_entry, replies_fit}
 use Rattle.gi_net.proofs.Prompting.{ins_of_outs, outs_of_outs, prompt_kept, prompt_on, prompt_outs}
 
 two_takes : (x y : List ℕ) (c : Option (List ℕ)) → option_map (λ xs. x ++ xs) (option_map (λ xs. y ++ xs) c) ≡ option_map (λ xs. (x ++ y) ++ xs) c
@@ -267,7 +265,7 @@ same_goes t going same ended =
 
 -- nothing was fed yet
 abbrev pub opening : Source
-opening = record { lines = record { left = []; ended = false; long = false; most = 1048576 }; line = 1 }
+opening = record { lines = record { left = []; ended = false; long = false; most = 1048576 }; line = 1; load = None }
 
 pub opening_ahead : (ended : Bool) (more : List ℕ) → items ended more ≡ ahead opening ended more
 unfolding ahead
@@ -279,8 +277,8 @@ opening_none = refl
 
 -- a piece that could not be fed is ahead of such a reader
 abbrev pub with_piece : Source → List ℕ → Source
-with_piece s piece = record { lines = record s.lines { left = s.lines.left ++ piece }; line = s.line }
+with_piece s piece = record { lines = record s.lines { left = s.lines.left ++ piece }; line = s.line; load = s.load }
 
 pub with_piece_ahead : (s : Source) (piece : List ℕ) (ended : Bool) (more : List ℕ) → ahead (with_piece s piece) ended more ≡ ahead s ended (piece ++ more)
 unfolding ahead
-with_piece_ahead s piece ended more = ap (items_from ended s.line []) (append_assoc s.lines.left piece more)
+with_piece_ahead s piece ended more = ap (λ xs. goes_on s.load s.line (λ j p. items_from ended j p xs)) (append_assoc s.lines.left piece more)

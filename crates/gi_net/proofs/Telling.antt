@@ -1,7 +1,7 @@
 -- What answering one item does, by cases of the code.
-use Rattle.std.proofs.Common.{◌≡◌, ℕ, ◌+◌, ◌⊎◌, inl, inr, List, [], ◌∷◌, ◌++◌, length, Option, Some, None, true, refl, ap, sym, ◌∙◌, subst, arith}
+use Rattle.std.proofs.Common.{◌≡◌, ℕ, inl, inr, [], Option, Some, None, true, refl, ap, sym, subst, arith}
 use Rattle.std.proofs.lemmas.List.{append-nil}
-use Rattle.gi_outside.specs.World.{World, Wrote, WroteCut}
+use Rattle.gi_outside.specs.World.{World}
 use Rattle.gi_model.specs.Fits.{fits}
 use Rattle.gi_model.specs.declared.calls.Call.{Call}
 use Rattle.gi_model.specs.declared.replies.Reply.{Reply}
@@ -14,7 +14,7 @@ use Rattle.gi_net.specs.declared.how.How.{How}
 use Rattle.gi_net.specs.declared.how.How.TheVariants as how
 use Rattle.gi_net.specs.Calls.{BreaksOff, Enters}
 use Rattle.gi_net.specs.Standing.{Standing}
-use Rattle.gi_net.specs.Told.{AnswersItem, Tells, TellsNoMemory, Told, ToldCut, Took, TookAs, Unanswered}
+use Rattle.gi_net.specs.Told.{AnswersItem, Tells, TellsNoMemory, Took}
 use Rattle.gi_net.proofs.Works.{fits_no_work}
 
 -- an item whose reply was told

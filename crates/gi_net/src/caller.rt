@@ -29,7 +29,7 @@ pub trait Caller {
     /// The reply to its last call, where that has an entry.
     ghost answer: { Self → Option Reply };
 
-    /// Makes a call, which may not be `Work` or a solve with no budget.
+    /// Makes a call, which may not be `Work`, a solve with no budget or a load of more than 16,777,216 bytes.
     fn call(&mut self, call: Call) -> Answered
         requires { fits call ≡ true }
         ensures { Makes result call (answer self.new) (standing self.old) (standing self.new) };

@@ -23,8 +23,8 @@ const MOST_BYTES: u64 = 1 << 62;
 // The most bytes that one read asks for.
 const PIECE: usize = 4096;
 
-/// Serves a link: each line of its input is a call by `caller` or refused, and its answer is written. It reads at most
-/// 4,096 bytes at a time, and answers every whole line before the next read.
+/// Serves a link: each line of its input, a load with the bytes behind its line, is a call by `caller` or refused, and its
+/// answer is written. It reads at most 4,096 bytes at a time, and answers every whole line and load before the next read.
 pub fn serve_one<C: Caller, L: Link>(alloc: Global, caller: &mut C, link: &mut L) -> How
     ensures { Session (L.state link.old) (L.state link.new) (C.standing caller.old) (C.standing caller.new) result }
 {
@@ -112,7 +112,7 @@ fn answer<C: Caller, L: Link>(caller: &mut C, link: &mut L, item: Item) -> Optio
     }
 }
 
-// Makes the call that a line asks for, and answers the line.
+// Makes the call that an item asks for, and answers its line.
 fn answer_call<C: Caller, L: Link>(
     caller: &mut C,
     link: &mut L,

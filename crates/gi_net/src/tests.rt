@@ -121,6 +121,22 @@ fn the_last_line_needs_no_end(rt: HostRuntime) -> Result<(), Fail> {
 }
 
 #[test]
+fn loads_come_with_their_bytes(rt: HostRuntime) -> Result<(), Fail> {
+    let alloc = rt.alloc();
+    let rows = [
+        ("load cnf 100\np cnf\n", How::Eof, "refused 1 1\n"),
+        ("load cnf 4\nbye\nbye\n", How::Bye, "ok\nbye\n"),
+    ];
+    for (input, ending, output) in rows {
+        let mut link = link_of(alloc, input.as_bytes(), &[], &[])?;
+        let how = serve_one(alloc, &mut new_clerk(alloc, false, 9), &mut link);
+        assert_eq!(rt; how, ending);
+        assert_eq!(rt; link.written(), output.as_bytes());
+    }
+    Ok(())
+}
+
+#[test]
 fn a_third_write_fails(rt: HostRuntime) -> Result<(), Fail> {
     let alloc = rt.alloc();
     let mut link = link_of(alloc, b"vars 1\nvars 2\nvars 3\n", &[], &[3])?;

@@ -2,3 +2,4 @@ pub mod Listing
 pub mod Reading
 pub mod Sources
 pub mod Writing
+pub mod Staying

@@ -1,18 +1,18 @@
 -- What a reader of items answers.
-use Rattle.std.specs.Prelude.{◌≡◌, ℕ, ◌<◌, ◌≤◌, Bool, true, false, List, [], ◌∷◌, length}
+use Rattle.std.specs.Prelude.{◌≡◌, ℕ, ◌<◌, ◌≤◌, Bool, true, false, List, [], ◌∷◌}
 use Rattle.gi_model.specs.Fits.{fits}
 use Rattle.gi_wire.specs.declared.reader.Asked.{Asked}
 use Rattle.gi_wire.specs.declared.reader.Asked.TheVariants as asked
 use Rattle.gi_wire.specs.declared.reader.Given.{Given}
 use Rattle.gi_wire.specs.declared.reader.Given.TheVariants as given
 use Rattle.gi_wire.specs.declared.reader.Item.{Item}
-use Rattle.gi_wire.specs.Source.{Source, ahead, Comes, last_line}
+use Rattle.gi_wire.specs.Source.{Source, ahead, Comes, last_line, most_items}
 
 -- the same is ahead
 pub record SameAhead (old new : Source) : Type 0 where
   pub each : (ended : Bool) (more : List ℕ) → Comes old ended more → ahead new ended more ≡ ahead old ended more
 
--- a call that a line asks for may be made
+-- a call that an item asks for may be made
 abbrev pub MayBeAsked : Asked → Type 0
 MayBeAsked (asked.Call call) = fits call ≡ true
 MayBeAsked asked.Syntax = Unit {0}
@@ -23,7 +23,7 @@ pub record GivesItem (item : Item) (old new : Source) : Type 0 where
   pub ahead_is : (ended : Bool) (more : List ℕ) → Comes old ended more → ahead old ended more ≡ item ∷ ahead new ended more
   pub may_be : MayBeAsked item.asked
   pub ended : new.lines.ended ≡ old.lines.ended
-  pub shorter : length new.lines.left < length old.lines.left
+  pub fewer : most_items new < most_items old
   pub count : last_line new ≤ last_line old
 
 -- no item is whole, and more may come
@@ -39,3 +39,8 @@ GivesNext (given.Item item) old new = GivesItem item old new
 GivesNext given.More old new = Waits old new
 GivesNext given.Done old new = (old.lines.ended ≡ true) × (ahead old true [] ≡ []) × (new ≡ old)
 GivesNext given.NoMemory old new = new.lines.ended ≡ old.lines.ended
+
+-- a load under way is an item that is still to be given
+abbrev pub GivesLoad : Given → Source → Source → Type 0
+GivesLoad given.Done old new = ⊥
+GivesLoad answer old new = GivesNext answer old new

@@ -5,6 +5,8 @@ use Rattle.gi_lit.specs.Literals.{literal_of}
 use Rattle.gi_model.specs.declared.calls.Call.{Call}
 use Rattle.gi_model.specs.declared.calls.Call.TheVariants.{Vars, Add, NewGuard, Under, DropGuard, Assume, Test, Untest, Reasons, Solve, Pause, Resume, Stop, Poll, Wait, Model, Known, KnownClause, Bye}
 use Rattle.gi_text.specs.Numbers.{number_of}
+use Rattle.gi_wire.specs.declared.call.Kind.{Kind}
+use Rattle.gi_wire.specs.declared.call.Kind.TheVariants.{Cnf}
 
 -- a number without a sign, within these bounds
 abbrev pub within : ℕ → ℕ → Option ℤ → Option ℕ
@@ -89,3 +91,23 @@ call_of [] = None
 call_of (name ∷ words) = if bytes_eq name (codes "add") then option_map Add (list_at words)
     else if bytes_eq name (codes "assume") then option_map Assume (list_at words)
     else if bytes_eq name (codes "under") then under_of words else short_call name words
+
+-- what a line asks for: a call, or a load of so many bytes, which follow the line
+pub data Ask : Type 0 where
+  Makes : (call : Call) → Ask
+  Loads : (kind : Kind) (len : ℕ) → Ask
+
+-- a load, by its kind and its length
+unfoldable pub load_with : List ℕ → List ℕ → Option Ask
+load_with kind len = if bytes_eq kind (codes "cnf") then option_map (Loads Cnf) (count_at 0 16777216 len) else None
+
+abbrev pub load_of : List (List ℕ) → Option Ask
+load_of [] = None
+load_of (kind ∷ []) = None
+load_of (kind ∷ len ∷ []) = load_with kind len
+load_of (kind ∷ len ∷ word ∷ words) = None
+
+-- what a line of these words asks for
+unfoldable pub ask_of : List (List ℕ) → Option Ask
+ask_of [] = None
+ask_of (name ∷ words) = if bytes_eq name (codes "load") then load_of words else option_map Makes (call_of (name ∷ words))

@@ -8,3 +8,4 @@ pub mod Items
 pub mod Source
 pub mod Gives
 pub mod Holds
+pub mod Laws

@@ -1,6 +1,11 @@
 -- The texts of answers.
-use Rattle.std.specs.Prelude.{ℕ, List, [], ◌∷◌, ◌++◌, codes, decimal, Bool, true, false}
+use Rattle.std.specs.Prelude.{ℕ, List, [], ◌∷◌, ◌++◌, ◌==◌, if◌then◌else◌, codes, decimal, Bool, true, false}
+use Rattle.gi_dimacs.specs.declared.fault.CnfCode.TheVariants.{Header, Word, Number, Limit, Unterminated}
 use Rattle.gi_model.specs.Number.{refusal_number}
+use Rattle.gi_model.specs.declared.refusal.PayloadCode.{PayloadCode}
+use Rattle.gi_model.specs.declared.refusal.PayloadCode.TheVariants.{Cnf}
+use Rattle.gi_model.specs.declared.refusal.Refusal.{Refusal}
+use Rattle.gi_model.specs.declared.refusal.Refusal.TheVariants.{Payload}
 use Rattle.gi_model.specs.declared.replies.Reply.{Reply}
 use Rattle.gi_model.specs.declared.replies.Reply.TheVariants as reply
 use Rattle.gi_model.specs.declared.replies.Status.{Status}
@@ -28,6 +33,23 @@ status_text serial status.Sat = codes "sat " ++ decimal serial
 status_text serial status.Unsat = codes "unsat " ++ decimal serial
 status_text serial (status.Unknown why) = codes "unknown " ++ decimal serial ++ reason_text why
 
+-- what is wrong with a payload
+unfoldable pub code_text : PayloadCode → List ℕ
+code_text (Cnf Header) = codes "header"
+code_text (Cnf Word) = codes "word"
+code_text (Cnf Number) = codes "number"
+code_text (Cnf Limit) = codes "limit"
+code_text (Cnf Unterminated) = codes "unterminated"
+
+-- a gate that isn't 0
+abbrev pub gate_text : ℕ → List ℕ
+gate_text gate = if gate == 0 then [] else codes " " ++ decimal gate
+
+-- what a refusal tells besides its number: of a payload the line that is wrong, and how
+unfoldable pub details_text : Refusal → List ℕ
+details_text (Payload line gate code) = codes " " ++ decimal line ++ (codes " " ++ code_text code) ++ gate_text gate
+details_text refusal = []
+
 -- the answer to the line of this number, without its LF
 unfoldable pub words_text : ℕ → Reply → List ℕ
 words_text line reply.Done = codes "ok"
@@ -42,10 +64,11 @@ words_text line (reply.Unsat serial failed) = codes "unsat " ++ decimal serial +
 words_text line (reply.Model ls) = codes "model " ++ list_text ls
 words_text line (reply.Known n) = codes "known " ++ decimal n
 words_text line (reply.Clause ls) = codes "clause " ++ list_text ls
+words_text line (reply.LoadedCnf vars clauses) = codes "loaded cnf " ++ decimal vars ++ (codes " " ++ decimal clauses)
 words_text line reply.Bye = codes "bye"
 words_text line (reply.Worked news now) = []
 words_text line reply.Idle = []
-words_text line (reply.Refused refusal) = codes "refused " ++ decimal line ++ (codes " " ++ decimal (refusal_number refusal))
+words_text line (reply.Refused refusal) = codes "refused " ++ decimal line ++ (codes " " ++ decimal (refusal_number refusal)) ++ details_text refusal
 words_text line reply.NoMemory = codes "nomem"
 words_text line reply.Spent = []
 

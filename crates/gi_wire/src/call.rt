@@ -1,59 +1,122 @@
 // Calls, read from lines.
-ghost use Rattle.std.specs.Prelude.{◌≡◌, ◌≤◌, true, IfOk, IfSome};
+ghost use Rattle.std.specs.Prelude.{◌≡◌, ◌≤◌, ◌∷◌, true, IfOk, IfSome};
 ghost use Rattle.gi_model.specs.Fits.{fits};
 ghost use Rattle.gi_text.specs.Numbers.{number_of};
 ghost use Rattle.gi_text.specs.Words.{words_of};
 ghost use Rattle.gi_wire.specs.CallRead.{ReadsCall};
-ghost use Rattle.gi_wire.specs.Grammar.{call_alone, call_of, call_with, count_at, guard_at, is_zero, list_at, literal_at, short_call, under_of};
+ghost use Rattle.gi_wire.specs.Grammar.{ask_of, call_alone, call_of, call_with, count_at, guard_at, is_zero, list_at, literal_at, load_of, load_with, short_call, under_of};
 
 use gi_lit::{Lit, Lits, MAX_VAR, Var};
-use gi_model::Call;
+use gi_model::{Call, MAX_PAYLOAD};
 use gi_text::{Number, Words, read_number};
 use std::alloc::{AllocError, Global};
 
+// The most bytes that a load has.
+const MOST_LOADED: u32 = MAX_PAYLOAD as u32;
+
+/// What the bytes of a load are.
+#[derive(Clone, Copy, Debug, PartialEq, Eq)]
+pub enum Kind {
+    /// A DIMACS CNF file.
+    Cnf,
+}
+
+// A load whose bytes follow its line.
+#[derive(Clone, Copy)]
+pub struct Load {
+    pub kind: Kind,
+    pub len: u32,
+}
+
 /// What a line asks for.
-#[derive(Debug, Drop)]
+#[derive(Drop)]
 pub enum CallRead {
     Call(Call),
+    /// A call with the `len` bytes behind the line's LF, at most 16,777,216.
+    Load { kind: Kind, len: u32 },
     /// The line isn't in the grammar.
     Syntax,
     /// There was no memory for the call's list of literals.
     NoMemory,
 }
 
-/// The call that a line asks for, by its words: white bytes before, between and after them don't
-/// matter. `Syntax` comes exactly where the grammar doesn't have the line.
+/// The call or load that a line asks for, by its words: white bytes before, between and after them
+/// don't matter. `Syntax` comes exactly where the grammar doesn't have the line.
 pub fn read_call(alloc: Global, line: &[u8]) -> CallRead
-    ensures { ReadsCall result (call_of (words_of line.now)) }
+    ensures { ReadsCall result (ask_of (words_of line.now)) }
 {
-    match call_in(alloc, Words::new(line)) {
-        Ok(Some(call)) => CallRead::Call(call),
-        Ok(None) => CallRead::Syntax,
-        Err(_) => CallRead::NoMemory,
+    read_words(alloc, Words::new(line))
+}
+
+// The call or load that these words ask for.
+#[tactic(auto, unfolding(crate::specs::Grammar::ask_of))]
+fn read_words(alloc: Global, mut words: Words) -> CallRead
+    ensures { ReadsCall result (ask_of words.entry) }
+{
+    match words.next() {
+        None => CallRead::Syntax,
+        Some(name) => {
+            if name == b"load".as_slice() {
+                return read_load(words);
+            }
+            match read_named(alloc, name, words) {
+                Ok(Some(call)) => CallRead::Call(call),
+                Ok(None) => CallRead::Syntax,
+                Err(_) => CallRead::NoMemory,
+            }
+        }
     }
 }
 
-// The call that these words ask for.
-#[tactic(auto, unfolding(crate::specs::Grammar::call_of))]
-fn call_in(alloc: Global, mut words: Words) -> Result<Option<Call>, AllocError>
-    ensures call { IfOk result (λ call. call ≡ call_of words.entry) }
-    ensures fits { IfOk result (λ call. IfSome call (λ c. fits c ≡ true)) }
+// A load, by the words behind its name.
+fn read_load(mut words: Words) -> CallRead
+    ensures { ReadsCall result (load_of words.entry) }
 {
     match words.next() {
-        None => Ok(None),
-        Some(name) => {
-            if name == b"add".as_slice() {
-                return Ok(read_list(alloc, words)?.map(Call::Add));
-            }
-            if name == b"assume".as_slice() {
-                return Ok(read_list(alloc, words)?.map(Call::Assume));
-            }
-            if name == b"under".as_slice() {
-                return read_under(alloc, words);
-            }
-            Ok(read_short(name, words))
-        }
+        None => CallRead::Syntax,
+        Some(kind) => match words.next() {
+            None => CallRead::Syntax,
+            Some(len) => match words.next() {
+                None => read_load_with(kind, len),
+                Some(_) => CallRead::Syntax,
+            },
+        },
     }
+}
+
+// A load, by its kind and its length.
+#[tactic(auto, unfolding(crate::specs::Grammar::load_with))]
+fn read_load_with(kind: &[u8], len: &[u8]) -> CallRead
+    ensures { ReadsCall result (load_with kind.now len.now) }
+{
+    if kind != b"cnf".as_slice() {
+        return CallRead::Syntax;
+    }
+    match read_count(len, 0, MOST_LOADED) {
+        Some(len) => CallRead::Load {
+            kind: Kind::Cnf,
+            len,
+        },
+        None => CallRead::Syntax,
+    }
+}
+
+// The call of this name, with these words behind it.
+#[tactic(auto, unfolding(crate::specs::Grammar::call_of))]
+fn read_named(alloc: Global, name: &[u8], words: Words) -> Result<Option<Call>, AllocError>
+    ensures call { IfOk result (λ call. call ≡ call_of (name.now ∷ words.entry)) }
+    ensures fits { IfOk result (λ call. IfSome call (λ c. fits c ≡ true)) }
+{
+    if name == b"add".as_slice() {
+        return Ok(read_list(alloc, words)?.map(Call::Add));
+    }
+    if name == b"assume".as_slice() {
+        return Ok(read_list(alloc, words)?.map(Call::Assume));
+    }
+    if name == b"under".as_slice() {
+        return read_under(alloc, words);
+    }
+    Ok(read_short(name, words))
 }
 
 // A guard, and a list of literals.

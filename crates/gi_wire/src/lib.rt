@@ -2,13 +2,15 @@
 #![tactic(auto)]
 
 mod call;
+mod laws;
 mod literals;
 mod outbox;
 mod reader;
 mod reply;
 mod sent;
 
-pub use call::{CallRead, read_call};
+pub use call::{CallRead, Kind, read_call};
+pub use laws::{items_stay, loads_are_items};
 pub use reader::{Asked, Given, Item, Reader};
 pub use reply::write_reply;
 pub use sent::Sent;

@@ -1,27 +1,27 @@
 // A reader of items.
-ghost use Rattle.std.specs.Prelude.{◌≡◌, ◌++◌, ◌+◌, ◌^◌, ◌<◌, ◌≤◌, ℕ, List, Bool, length, [], true, false, IfSome, OnOk, OnErr};
-ghost use Rattle.gi_wire.specs.Gives.{GivesNext, MayBeAsked};
-ghost use Rattle.gi_wire.specs.Items.{asks};
+ghost use Rattle.std.specs.Prelude.{◌≡◌, ◌++◌, ◌+◌, ◌^◌, ◌<◌, ◌≤◌, ℕ, List, Bool, length, [], true, false, Some, None, OnOk, OnErr};
+ghost use Rattle.gi_wire.specs.Gives.{GivesLoad, GivesNext};
+ghost use Rattle.gi_wire.specs.Items.{load_call};
 ghost use Rattle.gi_wire.specs.Source.{ahead, last_line};
 
-use crate::call::{CallRead, read_call};
+use crate::call::{CallRead, Kind, Load, read_call};
 use gi_model::Call;
-use gi_text::{Lines, Next};
+use gi_text::{Bytes, Lines, Next, Raw};
 use std::alloc::{AllocError, Global};
 use std::marker::Model;
 
-/// What a line asks for.
-#[derive(Debug, Drop)]
+/// What an item asks for.
+#[derive(Drop)]
 pub enum Asked {
     Call(Call),
-    /// The line isn't in the grammar.
+    /// The line isn't in the grammar, or the input ends before the load's bytes are there.
     Syntax,
     /// The line has more than 1,048,576 bytes.
     Long,
 }
 
-/// A line, by its number, counted from 1.
-#[derive(Debug, Drop)]
+/// A line, by its number, counted from 1; a load with the bytes behind its line, which are no lines.
+#[derive(Drop)]
 pub struct Item {
     pub line: u64,
     pub asked: Asked,
@@ -31,7 +31,7 @@ pub struct Item {
 #[derive(Drop)]
 pub enum Given {
     Item(Item),
-    /// No line is whole, and more may come.
+    /// No item is whole, and more may come.
     More,
     /// The input has ended, and every item was given.
     Done,
@@ -39,35 +39,38 @@ pub enum Given {
     NoMemory,
 }
 
-/// The items of an input that comes in pieces. It hides numbers, and how much is kept of lines that
-/// are too long.
+/// The items of an input that comes in pieces. It hides numbers, loads under way, and how much is kept
+/// of lines that are too long.
 #[derive(Drop)]
 pub struct Reader {
     alloc: Global,
     lines: Lines,
     line: u64,
+    // Its line was taken, and its bytes were not.
+    load: Option<Load>,
 }
 
 impl Model for Reader {
     ghost use Rattle.gi_wire.specs.Source.{Source};
-    ghost use Rattle.gi_wire.specs.Holds.{HoldsLong};
+    ghost use Rattle.gi_wire.specs.Holds.{HoldsLong, HoldsLoad};
 
     ghost Value = { Source };
 
-    ghost view = { λ r. record { lines = r.lines; line = r.line } };
+    ghost view = { λ r. record { lines = r.lines; line = r.line; load = r.load } };
 
-    ghost invariant = { λ r. HoldsLong r.lines };
+    ghost invariant = { λ r. HoldsLong r.lines × HoldsLoad r.lines r.load };
 }
 
 impl Reader {
     /// Nothing was fed yet. Takes no memory.
     pub fn new(alloc: Global) -> Reader
-        ensures { result ≡ record { lines = record { left = []; ended = false; long = false; most = 1048576 }; line = 1 } }
+        ensures { result ≡ record { lines = record { left = []; ended = false; long = false; most = 1048576 }; line = 1; load = None } }
     {
         Reader {
             alloc,
             lines: Lines::new(alloc),
             line: 1,
+            load: None,
         }
     }
 
@@ -96,10 +99,27 @@ impl Reader {
         requires { self.old.line < 2 ^ 63 }
         ensures { GivesNext result self.old self.new }
     {
+        match self.load {
+            Some(load) => self.next_load(load),
+            None => self.next_line(),
+        }
+    }
+
+    // The item that the next line is, or begins.
+    fn next_line(&mut self) -> Given
+        requires room { self.old.line < 2 ^ 63 }
+        requires load { self.old.load ≡ None }
+        ensures { GivesNext result self.old self.new }
+    {
         match self.lines.next_line() {
-            Next::Line(line) => match read_asked(self.alloc, line.as_slice()) {
-                Some(asked) => Given::Item(self.number(asked)),
-                None => Given::NoMemory,
+            Next::Line(line) => match read_call(self.alloc, line.as_slice()) {
+                CallRead::Call(call) => Given::Item(self.number(Asked::Call(call))),
+                CallRead::Load { kind, len } => {
+                    self.load = Some(Load { kind, len });
+                    self.next_load(Load { kind, len })
+                }
+                CallRead::Syntax => Given::Item(self.number(Asked::Syntax)),
+                CallRead::NoMemory => Given::NoMemory,
             },
             Next::Long => Given::Item(self.number(Asked::Long)),
             Next::More => Given::More,
@@ -108,28 +128,40 @@ impl Reader {
         }
     }
 
-    // Numbers what a line asks for.
+    // The item that the load under way makes.
+    fn next_load(&mut self, load: Load) -> Given
+        requires room { self.old.line < 2 ^ 63 }
+        requires load { self.old.load ≡ Some load }
+        ensures { GivesLoad result self.old self.new }
+    {
+        match self.lines.take_raw(load.len) {
+            Raw::Bytes(bytes) => {
+                Given::Item(self.number(Asked::Call(call_of_load(load.kind, bytes))))
+            }
+            Raw::More => Given::More,
+            Raw::Cut => Given::Item(self.number(Asked::Syntax)),
+            Raw::NoMemory => Given::NoMemory,
+        }
+    }
+
+    // Numbers what an item asks for. No load is under way behind it.
     fn number(&mut self, asked: Asked) -> Item
         requires { self.old.line < 2 ^ 63 }
         ensures item { result ≡ record { line = self.old.line; asked = asked } }
-        ensures next { self.new ≡ record self.old { line = self.old.line + 1 } }
+        ensures next { self.new ≡ record self.old { line = self.old.line + 1; load = None } }
     {
         let line = self.line;
         self.line += 1;
+        self.load = None;
         Item { line, asked }
     }
 }
 
-// What a line that isn't too long asks for; None is want of memory.
-#[tactic(auto, unfolding(crate::specs::Items::asks))]
-fn read_asked(alloc: Global, line: &[u8]) -> Option<Asked>
-    requires { length line.now ≤ 1048576 }
-    ensures value { IfSome result (λ asked. asked ≡ asks line.now) }
-    ensures may_be { IfSome result MayBeAsked }
+// The call of a load with these bytes.
+fn call_of_load(kind: Kind, bytes: Bytes) -> Call
+    ensures { result ≡ load_call kind bytes }
 {
-    match read_call(alloc, line) {
-        CallRead::Call(call) => Some(Asked::Call(call)),
-        CallRead::Syntax => Some(Asked::Syntax),
-        CallRead::NoMemory => None,
+    match kind {
+        Kind::Cnf => Call::LoadCnf(bytes),
     }
 }

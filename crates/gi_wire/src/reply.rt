@@ -4,13 +4,14 @@ ghost use Rattle.gi_outside.specs.World.{World, Wrote, WroteCut};
 ghost use Rattle.gi_wire.specs.Literals.{list_text};
 ghost use Rattle.gi_wire.specs.Outbox.{Stands};
 ghost use Rattle.gi_wire.specs.Sent.{MatchSent};
-ghost use Rattle.gi_wire.specs.Text.{is_answer, status_text, text, words_text};
+ghost use Rattle.gi_wire.specs.Text.{code_text, details_text, gate_text, is_answer, status_text, text, words_text};
 
 use crate::literals::put_literals;
 use crate::outbox::Outbox;
 use crate::sent::Sent;
+use gi_dimacs::CnfCode;
 use gi_lit::Lits;
-use gi_model::{Reply, Status, Why};
+use gi_model::{PayloadCode, Refusal, Reply, Status, Why};
 use gi_outside::Link;
 use gi_text::Digits;
 
@@ -58,13 +59,56 @@ fn put_reply<L: Link>(outbox: &mut Outbox, line: u64, reply: &Reply, link: &mut 
         Reply::Model(literals) => put_listed(outbox, b"model ", literals, link),
         Reply::Known(n) => put_numbered(outbox, b"known ", *n, link),
         Reply::Clause(literals) => put_listed(outbox, b"clause ", literals, link),
+        Reply::LoadedCnf { vars, clauses } => {
+            put_numbered(outbox, b"loaded cnf ", u64::from(*vars), link);
+            put_numbered(outbox, b" ", u64::from(*clauses), link);
+        }
         Reply::Bye => outbox.put(b"bye", link),
         Reply::Refused(refusal) => {
             put_numbered(outbox, b"refused ", line, link);
             put_numbered(outbox, b" ", u64::from(refusal.number()), link);
+            put_details(outbox, refusal, link);
         }
         Reply::NoMemory => outbox.put(b"nomem", link),
         Reply::Worked { .. } | Reply::Idle | Reply::Spent => {}
+    }
+}
+
+// Puts what a refusal tells besides its number.
+#[tactic(auto, unfolding(crate::specs::Text::details_text))]
+fn put_details<L: Link>(outbox: &mut Outbox, refusal: &Refusal, link: &mut L)
+    ensures { (start : World) (before : List ℕ) → Stands start (L.state link.old) outbox.old before
+        → Stands start (L.state link.new) outbox.new (before ++ details_text refusal.now) }
+{
+    if let Refusal::Payload { line, gate, code } = refusal {
+        put_numbered(outbox, b" ", *line, link);
+        outbox.put(b" ", link);
+        outbox.put(code_word(*code), link);
+        put_gate(outbox, *gate, link);
+    }
+}
+
+// Puts a gate that isn't 0.
+fn put_gate<L: Link>(outbox: &mut Outbox, gate: u32, link: &mut L)
+    ensures { (start : World) (before : List ℕ) → Stands start (L.state link.old) outbox.old before
+        → Stands start (L.state link.new) outbox.new (before ++ gate_text gate) }
+{
+    if gate != 0 {
+        put_numbered(outbox, b" ", u64::from(gate), link);
+    }
+}
+
+// The word for what is wrong with a payload.
+#[tactic(auto, unfolding(crate::specs::Text::code_text))]
+fn code_word(code: PayloadCode) -> &'static [u8]
+    ensures { result.now ≡ code_text code }
+{
+    match code {
+        PayloadCode::Cnf(CnfCode::Header) => b"header",
+        PayloadCode::Cnf(CnfCode::Word) => b"word",
+        PayloadCode::Cnf(CnfCode::Number) => b"number",
+        PayloadCode::Cnf(CnfCode::Limit) => b"limit",
+        PayloadCode::Cnf(CnfCode::Unterminated) => b"unterminated",
     }
 }
 

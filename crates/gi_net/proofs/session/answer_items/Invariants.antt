@@ -1,6 +1,6 @@
-use Rattle.std.proofs.Common.{◌≡◌, ◌≤◌, ℕ, length}
+use Rattle.std.proofs.Common.{◌≡◌, ◌≤◌, ℕ}
 use Rattle.gi_outside.specs.World.{World}
-use Rattle.gi_wire.specs.Source.{last_line}
+use Rattle.gi_wire.specs.Source.{last_line, most_items}
 use Rattle.gi_net.specs.Going.{Going}
 use Rattle.gi_net.specs.Standing.{Standing}
 use Rattle.gi_net.proofs.session.answer_items.Given as goal
@@ -15,4 +15,4 @@ invariant-items g l = record {
 }
 
 abbrev pub decreases-items : goal.decreases-items
-decreases-items g l = length l.reader.lines.left
+decreases-items g l = most_items l.reader

@@ -1,4 +1,4 @@
-use Rattle.std.proofs.Common.{◌≡◌, ◌≤◌, length, take, sym, ◌∙◌, refl, arith}
+use Rattle.std.proofs.Common.{◌≤◌, length, take, sym, ◌∙◌, refl, arith}
 use Rattle.std.proofs.lemmas.List.{length-take-le}
 use Rattle.gi_net.proofs.Ending.{ends_read_fault, no_memory}
 use Rattle.gi_net.proofs.Moving.{has_read, with_piece, with_piece_ahead}
