@@ -1,0 +1,12 @@
+pub mod Sending
+pub mod Drawing
+pub mod Texts
+pub mod Calls
+pub mod Phases
+pub mod Rounds
+pub mod Instances
+pub mod Taking
+pub mod Spelling
+pub mod Reading
+pub mod Leaving
+pub mod Serving

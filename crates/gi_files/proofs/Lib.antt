@@ -1,0 +1,4 @@
+pub mod Giving
+pub mod Sending
+pub mod Answering
+pub mod Completing

@@ -1,0 +1,7 @@
+pub mod Written
+pub mod Input
+pub mod Feeding
+pub mod Texts
+pub mod Commands
+pub mod Printing
+pub mod Completeness

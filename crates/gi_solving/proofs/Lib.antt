@@ -1,0 +1,15 @@
+pub mod Writing
+pub mod Lines
+pub mod Growing
+pub mod Doing
+pub mod Asking
+pub mod Filing
+pub mod Wholly
+pub mod Order
+pub mod Mirror
+pub mod Advance
+pub mod Slices
+pub mod Reaching
+pub mod Truths
+pub mod Completing
+pub mod Telling

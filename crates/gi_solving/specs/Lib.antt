@@ -1,0 +1,12 @@
+pub mod Steps
+pub mod Grown
+pub mod Doing
+pub mod Output
+pub mod Outbox
+pub mod Done
+pub mod Making
+pub mod Showing
+pub mod Solves
+pub mod Completeness
+pub mod Told
+pub mod Laws

@@ -1,0 +1,76 @@
+-- What solving a file does.
+use Rattle.std.specs.Prelude.{◌≡◌, ℕ, ◌⊎◌, List, Result, Ok, Err}
+use Rattle.gi_outside.specs.Link.{Rose}
+use Rattle.gi_outside.specs.World.{World, Wrote, WroteCut}
+use Rattle.gi_files.specs.Commands.{Refuses}
+use Rattle.gi_dimacs.specs.declared.fault.CnfFault.{CnfFault}
+use Rattle.gi_files.specs.Texts.{refused_text}
+use Rattle.gi_files.specs.Input.{AreBounded, AreTooMany, Gave, IsAll}
+use Rattle.gi_files.specs.declared.form.Form.{Form}
+use Rattle.gi_net.specs.Standing.{Standing}
+use Rattle.gi_solving.specs.declared.answer.Answer.{Answer}
+use Rattle.gi_solving.specs.declared.answer.Answer.TheVariants as answers
+use Rattle.gi_solving.specs.declared.answer.Stop.{Stop}
+use Rattle.gi_solving.specs.declared.answer.Stop.TheVariants as stops
+use Rattle.gi_solving.specs.declared.answer.Solved.{Solved}
+use Rattle.gi_solving.specs.declared.answer.Solved.TheVariants as solved
+use Rattle.gi_solving.specs.Steps.{Step, HasSteps}
+use Rattle.gi_solving.specs.Done.{IsDone, IsBegun}
+
+-- the bytes are a file, its steps were done, and this is the last answer; where nothing was asked it is unknown
+pub record Answers (answer : Answer) (form : Form) (budget : ℕ) (old mid new : World) (before after : Standing) (bytes : List ℕ) : Type 0 where
+  pub all : IsAll old mid bytes
+  pub steps : List Step
+  pub are : HasSteps form bytes steps
+  pub done : IsDone budget steps mid new before after answers.Unknown answer
+
+-- the bytes are a file, and its steps were begun
+pub record Stops (by : Stop) (form : Form) (budget : ℕ) (old mid new : World) (before after : Standing) (bytes : List ℕ) : Type 0 where
+  pub all : IsAll old mid bytes
+  pub steps : List Step
+  pub are : HasSteps form bytes steps
+  pub begun : IsBegun by budget steps mid new before after
+
+-- the bytes are no file of the form, whose refusal is this text; no call was made
+pub record IsRefused (form : Form) (old mid : World) (before after : Standing) (bytes text : List ℕ) : Type 0 where
+  pub all : IsAll old mid bytes
+  pub refuses : Refuses form bytes text
+  pub same : after ≡ before
+
+-- How it ends: the link as it was, as it was when the bytes had come, and as it is.
+abbrev pub Ends : Solved → Form → ℕ → World → World → World → Standing → Standing → List ℕ → Type 0
+Ends solved.Sat form budget old mid new before after bytes = Answers answers.Sat form budget old mid new before after bytes
+Ends solved.Unsat form budget old mid new before after bytes = Answers answers.Unsat form budget old mid new before after bytes
+Ends solved.Unknown form budget old mid new before after bytes = Answers answers.Unknown form budget old mid new before after bytes
+Ends solved.Refused form budget old mid new before after bytes = (text : List ℕ) × IsRefused form old mid before after bytes text × Wrote mid new text
+Ends solved.ReadFault form budget old mid new before after bytes = Rose old.failed_reads mid.failed_reads × (new ≡ mid) × (after ≡ before)
+Ends solved.WriteFault form budget old mid new before after bytes = ((text : List ℕ) × IsRefused form old mid before after bytes text × WroteCut mid new text)
+    ⊎ Stops stops.WriteFault form budget old mid new before after bytes
+Ends solved.NoMemory form budget old mid new before after bytes = ((new ≡ mid) × (after ≡ before)) ⊎ Stops stops.NoMemory form budget old mid new before after bytes
+Ends solved.TooMuch form budget old mid new before after bytes = (AreTooMany bytes × (new ≡ mid) × (after ≡ before)) ⊎ Stops stops.TooMuch form budget old mid new before after bytes
+Ends solved.Denied form budget old mid new before after bytes = Stops stops.Denied form budget old mid new before after bytes
+
+-- bytes came, and then calls were made and their output written
+pub record Solves (result : Solved) (form : Form) (budget : ℕ) (old new : World) (before after : Standing) : Type 0 where
+  pub bytes : List ℕ
+  -- the link when the bytes had come
+  pub mid : World
+  pub gave : Gave old mid bytes
+  pub bounded : AreBounded bytes
+  pub ends : Ends result form budget old mid new before after bytes
+
+-- the end that tells what came of a file's steps
+abbrev pub solved_of : Result Answer Stop → Solved
+solved_of (Ok answers.Sat) = solved.Sat
+solved_of (Ok answers.Unsat) = solved.Unsat
+solved_of (Ok answers.Unknown) = solved.Unknown
+solved_of (Err stops.NoMemory) = solved.NoMemory
+solved_of (Err stops.WriteFault) = solved.WriteFault
+solved_of (Err stops.TooMuch) = solved.TooMuch
+solved_of (Err stops.Denied) = solved.Denied
+
+-- a refusal was printed, or cut
+abbrev pub PrintsRefusal : Solved → CnfFault → World → World → Type 0
+PrintsRefusal solved.Refused fault v w = Wrote v w (refused_text fault)
+PrintsRefusal solved.WriteFault fault v w = WroteCut v w (refused_text fault)
+PrintsRefusal other fault v w = ⊥

@@ -1,0 +1,20 @@
+//! Files of clauses, solved by calls to a machine, and the answers printed.
+#![tactic(auto)]
+
+mod answer;
+mod laws;
+mod making;
+mod outbox;
+mod printing;
+mod solving;
+mod steps;
+
+pub use answer::Solved;
+pub use laws::{
+    asks_are_written, calls_are_answered, failures_are_true, models_are_true, undisturbed_is_whole,
+    unknown_is_spent,
+};
+pub use solving::solve;
+
+#[cfg(test)]
+mod tests;
