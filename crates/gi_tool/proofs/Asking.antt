@@ -1,11 +1,13 @@
 -- No line asks that the machine be shut.
-use Rattle.std.proofs.Common.{◌≡◌, ◌≢◌, ℕ, ◌+◌, ◌==◌, Bool, true, false, cond, Option, Some, None, option_map, option_to_list, List, [], ◌∷◌, ◌++◌, codes, ◌⊎◌, inl, inr, sym, ap, subst}
+use Rattle.std.proofs.Common.{◌≡◌, ◌≢◌, ℕ, ◌+◌, ◌-◌, ◌==◌, nat_lt, length, Bool, true, false, cond, Option, Some, None, option_map, option_to_list, List, [], ◌∷◌, ◌++◌, codes, ◌⊎◌, inl, inr, sym, ap, subst}
 use Rattle.std.specs.Str.{bytes_eq}
 use Rattle.gi_model.specs.declared.calls.Call.{Call}
 use Rattle.gi_model.specs.declared.calls.Call.TheVariants as call
 use Rattle.gi_text.specs.Words.{words_of}
-use Rattle.gi_wire.specs.Grammar.{call_alone, call_of, call_with, count_at, guard_at, list_at, literal_at, short_call, under_guard, under_of}
-use Rattle.gi_wire.specs.Items.{asked_by, asks, item, items, items_from, last_item}
+use Rattle.gi_wire.specs.declared.call.Kind.{Kind}
+use Rattle.gi_wire.specs.declared.call.Kind.TheVariants.{Cnf}
+use Rattle.gi_wire.specs.Grammar.{Ask, Makes, Loads, ask_of, call_alone, call_of, call_with, count_at, guard_at, list_at, literal_at, load_of, load_with, short_call, under_guard, under_of}
+use Rattle.gi_wire.specs.Items.{Place, InLine, InLoad, at_end, at_line, at_load, cut, items, items_from, line_by, load_call, then_next}
 use Rattle.gi_wire.specs.declared.reader.Asked.{Asked}
 use Rattle.gi_wire.specs.declared.reader.Asked.TheVariants as asked
 use Rattle.gi_wire.specs.declared.reader.Item.{Item}
@@ -56,34 +58,97 @@ by_words (name ∷ words) = either (bytes_eq name (codes "add")) (option_map cal
     (either (bytes_eq name (codes "assume")) (option_map call.Assume (list_at words)) _ (mapped call.Assume (list_at words) (λ x e. cc))
     (either (bytes_eq name (codes "under")) (under_of words) (short_call name words) (under words) (short name words)))
 
+-- a load is another call
+load_other : (kind : Kind) (bytes : List ℕ) → load_call kind bytes ≢ call.Shut
+load_other Cnf bytes e = absurd cc
+
+abbrev IsOther : Option Ask → Type 0
+IsOther o = o ≢ Some (Makes call.Shut)
+
+made : (o : Option Call) → IsElse o → IsOther (option_map Makes o)
+made None n e = absurd cc
+made (Some c) n e = n cc
+
+loading : (o : Option ℕ) → IsOther (option_map (Loads Cnf) o)
+loading None e = absurd cc
+loading (Some len) e = absurd cc
+
+loads_with : (kind len : List ℕ) → IsOther (load_with kind len)
+unfolding load_with
+loads_with kind len = go (bytes_eq kind (codes "cnf"))
+  where
+    go : (b : Bool) → IsOther (cond b (option_map (Loads Cnf) (count_at 0 16777216 len)) None)
+    go true = loading (count_at 0 16777216 len)
+    go false = λ e. cc
+
+loads_of : (words : List (List ℕ)) → IsOther (load_of words)
+loads_of [] = λ e. cc
+loads_of (kind ∷ []) = λ e. cc
+loads_of (kind ∷ len ∷ []) = loads_with kind len
+loads_of (kind ∷ len ∷ word ∷ words) = λ e. cc
+
+of_words : (words : List (List ℕ)) → IsOther (ask_of words)
+unfolding ask_of
+of_words [] = λ e. cc
+of_words (name ∷ words) = go (bytes_eq name (codes "load"))
+  where
+    go : (b : Bool) → IsOther (cond b (load_of words) (option_map Makes (call_of (name ∷ words))))
+    go true = loads_of words
+    go false = made (call_of (name ∷ words)) (by_words (name ∷ words))
+
 abbrev AsksShut : Item → Type 0
 AsksShut i = i.asked ≡ asked.Call call.Shut
 
-never_asked : (line : List ℕ) → asks line ≢ asked.Call call.Shut
-unfolding asks
-never_asked line e = go _ (call_of (words_of line)) (by_words (words_of line)) e
+-- nothing that comes next is a shut
+abbrev Never : (ℕ → Place → List Item) → Type 0
+Never next = (line : ℕ) (place : Place) → ¬ Has AsksShut (next line place)
+
+never_next : (line : ℕ) (what : Asked) (next : ℕ → Place → List Item) → what ≢ asked.Call call.Shut → Never next → ¬ Has AsksShut (then_next line what next)
+never_next line what next other rest (inl here) = other here
+never_next line what next other rest (inr there) = rest (line + 1) (InLine []) there
+
+never_load : (line : ℕ) (kind : Kind) (got : List ℕ) (missing : ℕ) (next : ℕ → Place → List Item) → Never next → ¬ Has AsksShut (at_load line kind got missing next)
+unfolding at_load
+never_load line kind got missing next rest h = go (missing == 0) h
   where
-    go : (b : Bool) (o : Option Call) → IsElse o → cond b asked.Long (asked_by o) ≡ asked.Call call.Shut → ⊥
-    go true o n e = absurd cc
-    go false None n e = absurd cc
-    go false (Some c) n e = n cc
+    go : (t : Bool) → Has AsksShut (cond t (then_next line (asked.Call (load_call kind got)) next) (next line (InLoad kind got missing))) → ⊥
+    go true h = never_next line (asked.Call (load_call kind got)) next (λ e. load_other kind got cc) rest h
+    go false h = rest line (InLoad kind got missing) h
 
-never_last : (line : ℕ) (begun : List ℕ) → ¬ Has AsksShut (last_item line begun)
-never_last line [] h = h
-never_last line (b ∷ bs) (inl here) = never_asked (b ∷ bs) here
-never_last line (b ∷ bs) (inr there) = there
+never_by : (line : ℕ) (o : Option Ask) (next : ℕ → Place → List Item) → IsOther o → Never next → ¬ Has AsksShut (line_by line o next)
+never_by line None next n rest h = never_next line asked.Syntax next (λ e. absurd cc) rest h
+never_by line (Some (Makes c)) next n rest h = never_next line (asked.Call c) next (λ e. n cc) rest h
+never_by line (Some (Loads kind len)) next n rest h = never_load line kind [] len next rest h
 
-never_from : (bs : List ℕ) (ended : Bool) (line : ℕ) (begun : List ℕ) → ¬ Has AsksShut (items_from ended line begun bs)
+never_line : (line : ℕ) (bytes : List ℕ) (next : ℕ → Place → List Item) → Never next → ¬ Has AsksShut (at_line line bytes next)
+unfolding at_line
+never_line line bytes next rest h = go (nat_lt 1048576 (length bytes)) h
+  where
+    go : (t : Bool) → Has AsksShut (cond t (then_next line asked.Long next) (line_by line (ask_of (words_of bytes)) next)) → ⊥
+    go true h = never_next line asked.Long next (λ e. absurd cc) rest h
+    go false h = never_by line (ask_of (words_of bytes)) next (of_words (words_of bytes)) rest h
+
+never_cut : Never cut
+never_cut line (InLine begun) h = h
+never_cut line (InLoad kind got missing) (inl here) = absurd cc
+never_cut line (InLoad kind got missing) (inr there) = there
+
+never_last : Never at_end
+never_last line (InLine []) h = h
+never_last line (InLine (b ∷ bs)) h = never_line line (b ∷ bs) cut never_cut h
+never_last line (InLoad kind got missing) h = never_cut line (InLoad kind got missing) h
+
+never_from : (bs : List ℕ) (ended : Bool) → Never (λ line place. items_from ended line place bs)
 unfolding items_from
-never_from [] true line begun h = never_last line begun h
-never_from [] false line begun h = h
-never_from (b ∷ bs) ended line begun h = go (never_from bs ended) (b == 10) h
+never_from [] true line place h = never_last line place h
+never_from [] false line place h = h
+never_from (b ∷ bs) ended line (InLine begun) h = go (never_from bs ended) (b == 10) h
   where
-    go : ((line : ℕ) (begun : List ℕ) → ¬ Has AsksShut (items_from ended line begun bs)) → (t : Bool)
-        → Has AsksShut (cond t (item line begun ∷ items_from ended (line + 1) [] bs) (items_from ended line (begun ++ b ∷ []) bs)) → ⊥
-    go rest true (inl here) = never_asked begun here
-    go rest true (inr there) = rest (line + 1) [] there
-    go rest false there = rest line (begun ++ b ∷ []) there
+    go : Never (λ k place. items_from ended k place bs) → (t : Bool)
+        → Has AsksShut (cond t (at_line line begun (λ k place. items_from ended k place bs)) (items_from ended line (InLine (begun ++ b ∷ [])) bs)) → ⊥
+    go rest true h = never_line line begun (λ k place. items_from ended k place bs) rest h
+    go rest false h = rest line (InLine (begun ++ b ∷ [])) h
+never_from (b ∷ bs) ended line (InLoad kind got missing) h = never_load line kind (got ++ b ∷ []) (missing - 1) (λ k place. items_from ended k place bs) (never_from bs ended) h
 
 asked_by_item : (is : List Item) → Has (λ (c : Call). c ≡ call.Shut) (calls is) → Has AsksShut is
 asked_by_item [] h = h
@@ -99,4 +164,4 @@ asked_by_item (i ∷ is) h = go (asked_by_item is) i.asked h
 -- so no call of an input's items is a shut
 pub never_called : (ended : Bool) (bytes : List ℕ) (front rest : List Item) → items ended bytes ≡ front ++ rest → ¬ Has (λ (c : Call). c ≡ call.Shut) (calls front)
 never_called ended bytes front rest split h =
-    never_from bytes ended 1 [] (subst (Has AsksShut) (sym split) (has_left AsksShut front rest (asked_by_item front h)))
+    never_from bytes ended 1 (InLine []) (subst (Has AsksShut) (sym split) (has_left AsksShut front rest (asked_by_item front h)))

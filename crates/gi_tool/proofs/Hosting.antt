@@ -38,7 +38,7 @@ kept_front : (xs ys : List Entry) → IsHistory (xs ++ ys) → IsHistory xs
 kept_front xs ys h = record { legal = record { each = legal_front xs ys opening h.legal.each }; own = own_front xs ys h.own }
 
 -- the history up to the shut is kept too
-kept_mid : (mid after : Standing) → Shuts mid after → IsHistory after.history → IsHistory mid.history
+pub kept_mid : (mid after : Standing) → Shuts mid after → IsHistory after.history → IsHistory mid.history
 kept_mid mid after (inl shut) kept = kept_front mid.history _ (subst IsHistory shut.history kept)
 kept_mid mid after (inr none) kept = subst (λ (s : Standing). IsHistory s.history) none.1 kept
 

@@ -7,3 +7,6 @@ pub mod Over
 pub mod Asking
 pub mod Lost
 pub mod Hosting
+pub mod Printing
+pub mod Filing
+pub mod Playing

@@ -1,8 +1,11 @@
 -- What it takes that a machine is over.
-use Rattle.std.proofs.Common.{◌≡◌, ◌≢◌, ◌+◌, Bool, true, false, cond, Option, Some, None, List, [], ◌∷◌, ◌++◌, length, filter, ◌⊎◌, inl, inr, refl, sym, ap, subst, ◌∙◌, arith, length-append}
+use Rattle.std.proofs.Common.{◌≡◌, ◌≢◌, ◌+◌, Bool, true, false, cond, Option, Some, None, Result, Ok, Err, List, [], ◌∷◌, ◌++◌, length, filter, ◌⊎◌, inl, inr, refl, sym, ap, subst, ◌∙◌, arith, length-append}
 use Rattle.std.specs.List.{AllByRecursion}
 use Rattle.std.proofs.lemmas.Bool.{cases_Bool}
 use Rattle.gi_model.specs.State.{State, Run, opening, live_run}
+use Rattle.gi_dimacs.specs.Content.{File}
+use Rattle.gi_dimacs.specs.declared.fault.CnfFault.{CnfFault}
+use Rattle.gi_model.specs.Loads.{loaded, file_refused, bad_payload}
 use Rattle.gi_model.specs.Refusals.{first_of, is_over, is_work, refuses, tests}
 use Rattle.gi_model.specs.Effects.{accepted, after, tested, worked}
 use Rattle.gi_model.specs.History.{Allows, Entry, IsLegalFrom, Replied}
@@ -57,13 +60,22 @@ dead_entry (e ∷ es) (inl here) = inl here
 dead_entry (e ∷ es) (inr there) = inr (dead_entry es there)
 
 -- a refusal that no condition that holds has
-unnamed : (x : Refusal) (ts : List (Bool × Refusal)) → AllByRecursion (λ (t : Bool × Refusal). t.1 ≡ x → t.0 ≡ false) ts → first_of ts ≢ Some x
-unnamed x [] a e = absurd cc
-unnamed x (t ∷ ts) a e = go (unnamed x ts a.1) t.0 refl e
+unnamed : (x : Refusal) (last : Option Refusal) → last ≢ Some x → (ts : List (Bool × Refusal)) → AllByRecursion (λ (t : Bool × Refusal). t.1 ≡ x → t.0 ≡ false) ts → first_of ts last ≢ Some x
+unnamed x last n [] a e = n e
+unnamed x last n (t ∷ ts) a e = go (unnamed x last n ts a.1) t.0 refl e
   where
-    go : first_of ts ≢ Some x → (b : Bool) → t.0 ≡ b → cond b (Some t.1) (first_of ts) ≡ Some x → ⊥
+    go : first_of ts last ≢ Some x → (b : Bool) → t.0 ≡ b → cond b (Some t.1) (first_of ts last) ≡ Some x → ⊥
     go rest true is q = (let no : true ≡ false = sym is ∙ a.0 cc in absurd cc)
     go rest false is q = rest q
+
+-- and a bad payload isn't refused for good
+file_lives : (file : Result File CnfFault) → file_refused file ≢ Some refusal.Dead
+file_lives (Ok f) e = absurd cc
+file_lives (Err fault) e = absurd cc
+
+payload_lives : (c : Call) → bad_payload c ≢ Some refusal.Dead
+payload_lives (call.LoadCnf bytes) e = file_lives (loaded bytes) e
+payload_lives other e = absurd cc
 
 -- only a machine that is over refuses for good
 named_dead : (s : State) (c : Call) → refuses s c ≡ Some refusal.Dead → is_over s.life ≡ true
@@ -72,7 +84,7 @@ named_dead s c e = elim (cases_Bool (is_over s.life)) [
   | inl over ↦ over
   | inr f ↦ elim (cases_Bool (is_work c)) [
     | inl t ↦ (let q : None ≡ Some refusal.Dead = rw t at e in absurd cc)
-    | inr n ↦ absurd (unnamed refusal.Dead (tests s c) ((λ q. f), ((λ q. absurd cc), ((λ q. absurd cc), ((λ q. absurd cc), ((λ q. absurd cc), ((λ q. absurd cc), ((λ q. absurd cc), ((λ q. absurd cc), ((λ q. absurd cc), ((λ q. absurd cc), ((λ q. absurd cc), ((λ q. absurd cc), tt)))))))))))) (rw n at e))
+    | inr n ↦ absurd (unnamed refusal.Dead (bad_payload c) (payload_lives c) (tests s c) ((λ q. f), ((λ q. absurd cc), ((λ q. absurd cc), ((λ q. absurd cc), ((λ q. absurd cc), ((λ q. absurd cc), ((λ q. absurd cc), ((λ q. absurd cc), ((λ q. absurd cc), ((λ q. absurd cc), ((λ q. absurd cc), ((λ q. absurd cc), tt)))))))))))) (rw n at e))
   ]
 ]
 
@@ -112,7 +124,8 @@ shut_done : (s : State) (r : Reply) → Allows s call.Shut r → (r ≡ reply.Do
 shut_done s r a = go (refuses s call.Shut) a.replied
   where
     go : (o : Option Refusal) → Replied s call.Shut r o → (r ≡ reply.Done) ⊎ ((q : Refusal) × (r ≡ reply.Refused q))
-    go (Some q) x = inr (q, x)
+    go (Some q) (inl x) = inr (q, x)
+    go (Some q) (inr x) = absurd (let no = x.1 in cc)
     go None (inl x) = inl x
     go None (inr x) = absurd (let no = x.1 in cc)
 

@@ -5,3 +5,8 @@ pub mod Kept
 pub mod Passing
 pub mod Shutting
 pub mod Outcome
+pub mod Output
+pub mod Ranges
+pub mod Solving
+pub mod Drilling
+pub mod Performing

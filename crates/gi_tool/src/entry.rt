@@ -1,7 +1,7 @@
 use gi_model::{Call, Reply};
 
 /// An entry of a history: a call with its reply.
-#[derive(Debug, Drop)]
+#[derive(Drop)]
 pub struct Entry {
     pub call: Call,
     pub reply: Reply,

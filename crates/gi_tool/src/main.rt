@@ -2,10 +2,14 @@
 #![tactic(auto)]
 
 mod brake;
+mod command;
+mod drilling;
 mod entry;
 mod pass;
 mod room;
 mod run;
+mod serving;
+mod solving;
 #[cfg(test)]
 mod tests;
 mod visit;

@@ -1,6 +1,7 @@
 ghost use Rattle.std.specs.Prelude.{◌≡◌, ◌^◌, ◌+◌, ◌<◌, ◌≤◌, [], true, false, Some, IsSome, IfSome, IfNone, MatchBool};
 ghost use Rattle.gi_model.specs.Fits.{fits};
 ghost use Rattle.gi_model.specs.History.{MayCome};
+ghost use Rattle.gi_drill.specs.Counting.{tally_of};
 ghost use Rattle.gi_tool.specs.Seen.{last_reply, standing, state_after};
 ghost use Rattle.gi_tool.specs.Kept.{IsHistory};
 ghost use Rattle.gi_tool.specs.Passing.{HasCalled, HasWorked, IsLive, Refuses, WorkedFor};
@@ -8,6 +9,7 @@ ghost use Rattle.gi_tool.specs.Passing.{HasCalled, HasWorked, IsLive, Refuses, W
 use crate::brake::NoBrake;
 use crate::entry::Entry;
 use gi_core::Core;
+use gi_drill::Tally;
 use gi_model::{Call, Phase, Reply};
 use gi_net::Answered;
 use std::alloc::Global;
@@ -176,6 +178,18 @@ impl Pass {
             Some(answered) => Some(answered),
             None => self.refuse(),
         }
+    }
+
+    /// What is counted of its history in a drill.
+    #[tactic(auto, unfolding(gi_drill::specs::Counting::tally_from))]
+    pub fn tally(&self) -> Tally
+        ensures { result ≡ tally_of self.now.history }
+    {
+        let mut tally = Tally::new();
+        for entry in &self.entries {
+            tally.note(&entry.call, &entry.reply);
+        }
+        tally
     }
 
     /// The reply to the last call.

@@ -1,18 +1,21 @@
-ghost use Rattle.std.specs.Prelude.{◌≡◌, ◌≢◌, ◌↔◌, true, false, map};
+ghost use Rattle.std.specs.Prelude.{◌≡◌, ◌≢◌, ◌↔◌, None, map};
 ghost use Rattle.std.specs.String.{string_bytes};
 ghost use Rattle.gi_outside.specs.Link.{Rose};
-ghost use Rattle.gi_net.specs.Told.{TellsNoMemory};
-ghost use Rattle.gi_tool.specs.Words.{is_run};
-ghost use Rattle.gi_tool.specs.Seen.{standing};
-ghost use Rattle.gi_tool.specs.Outcome.{Hosts, Runs, exit_status};
+ghost use Rattle.gi_files.specs.Completeness.{UndisturbedIsAnswered};
+ghost use Rattle.gi_tool.specs.Words.{command_of};
+ghost use Rattle.gi_tool.specs.Outcome.{exit_status};
+ghost use Rattle.gi_tool.specs.Output.{done_status};
+ghost use Rattle.gi_tool.specs.Performing.{Performs};
 
+use crate::command::{Command, read_words};
+use crate::drilling::{drill, status_of_drill};
 use crate::pass::Pass;
 use crate::room::Room;
-use crate::visit::Visit;
-use gi_model::Reply;
-use gi_net::{How, serve_one};
+use crate::serving::host;
+use crate::solving::{solve_file, status_of_solves};
+use gi_files::{Done, check, convert, undisturbed_is_answered};
+use gi_net::How;
 use gi_outside::Link;
-use gi_wire::{Sent, write_reply};
 use std::alloc::Global;
 
 /// How the program ends: its exit status, and the pass that it was handed.
@@ -22,12 +25,21 @@ pub struct Outcome {
     pub pass: Pass,
 }
 
-/// Does what the words ask for. `run`, also with `-q`, serves one session over `user`, and then shuts the machine where a
-/// call is left; no other words are a command. The pass may have been used before.
+/// Does what the words ask for.
 ///
-/// The status is 0 where the session ended by `bye` or by the input's end, 2 exactly where the words are no command, 3 for
-/// want of memory, 4 and 5 where a read or a write of `user` failed, 8 where the session was too much, and 9 where the
-/// machine is over, so that a call was refused for good.
+/// `run`, also with `-q`, serves one session over `user`, and then shuts the machine where a call is left. The pass may have
+/// been used before. `check` and `convert`, each with `cnf` or `icnf` behind it, read `user` to its end and print the counts
+/// or the canonical text of what it says, or `refused LINE CODE` for its first fault. `solve`, also with `--budget N` behind the
+/// form (1 to 4,294,967,295, for each solve), reads `user` to its end, makes the calls of its solves on the pass, and prints
+/// `s SATISFIABLE` with a model's literals in `v` lines, `s UNSATISFIABLE` or `s UNKNOWN` for each.
+/// `drill N` (0 to 10,000) serves a script of 600 clauses and N rounds of a guard on the pass, and prints what it counts of the
+/// answers. No other words are a command.
+///
+/// The status is 0 where the command did its work: where the session ended by `bye` or by the input's end, or the input was
+/// accepted, or its last solve wasn't answered within its budget or there was none. It is 10 and 20 where a last solve was
+/// satisfiable or unsatisfiable, 1 where the input was refused, 2 exactly where the words are no command, 3 for want of memory, 4 and 5
+/// where a read or a write of `user` failed, 8 where the session or the input was too much, and 9 where the machine is over, so
+/// that a call was refused for good.
 pub fn run<L: Link>(
     alloc: Global,
     words: &[String],
@@ -35,56 +47,43 @@ pub fn run<L: Link>(
     pass: Pass,
     user: &mut L,
 ) -> Outcome
-    ensures command { (result.status ≡ 2) ↔ (is_run (map (λ word. string_bytes word) words.now) ≡ false) }
-    ensures session { is_run (map (λ word. string_bytes word) words.now) ≡ true
-        → Runs (L.state user.old) (L.state user.new) (standing pass) (standing result.pass) result.status }
+    ensures does { Performs (command_of (map (λ word. string_bytes word) words.now)) (L.state user.old) (L.state user.new) pass result.pass result.status }
+    ensures command { (result.status ≡ 2) ↔ (command_of (map (λ word. string_bytes word) words.now) ≡ None) }
     ensures read { result.status ≡ 4 → Rose (L.state user.old).failed_reads (L.state user.new).failed_reads }
     ensures write { result.status ≡ 5 → Rose (L.state user.old).failed_writes (L.state user.new).failed_writes }
-    ensures other { is_run (map (λ word. string_bytes word) words.now) ≡ false → (result.pass ≡ pass) × (L.state user.new ≡ L.state user.old) }
 {
     let _ = room;
-    if !is_session(words) {
-        return Outcome { status: 2, pass };
-    }
-    let (how, pass) = host(alloc, pass, user);
-    Outcome {
-        status: status_of(how),
-        pass,
-    }
-}
-
-/// Serves one session, and then shuts the machine where a call is left. The memory for the entry of that call is taken
-/// first: where it isn't found, `nomem` is all that the session answers.
-fn host<L: Link>(alloc: Global, pass: Pass, user: &mut L) -> (How, Pass)
-    ensures { Hosts (L.state user.old) (L.state user.new) (standing pass) (standing result.1) result.0 }
-{
-    match Visit::begin(pass) {
-        Ok(mut visit) => {
-            let how = serve_one(alloc, &mut visit, user);
-            (how, visit.end())
+    match read_words(words) {
+        None => Outcome { status: 2, pass },
+        Some(Command::Run) => {
+            let (how, pass) = host(alloc, pass, user);
+            Outcome {
+                status: status_of(how),
+                pass,
+            }
         }
-        Err(pass) => (tell_no_memory(user), pass),
-    }
-}
-
-/// Tells that memory was wanting.
-fn tell_no_memory<L: Link>(user: &mut L) -> How
-    ensures { TellsNoMemory result (L.state user.old) (L.state user.new) }
-{
-    match write_reply(0, &Reply::NoMemory, user) {
-        Sent::Done => How::NoMemory,
-        Sent::Failed => How::WriteFault,
-    }
-}
-
-/// Whether the words are those of a session.
-fn is_session(words: &[String]) -> bool
-    ensures { result ≡ is_run (map (λ word. string_bytes word) words.now) }
-{
-    match words {
-        [run] => run.as_bytes() == b"run".as_slice(),
-        [run, quiet] => run.as_bytes() == b"run".as_slice() && quiet.as_bytes() == b"-q".as_slice(),
-        _ => false,
+        Some(Command::Check(form)) => Outcome {
+            status: status_of_file(check(alloc, form, user)),
+            pass,
+        },
+        Some(Command::Convert(form)) => Outcome {
+            status: status_of_file(convert(alloc, form, user)),
+            pass,
+        },
+        Some(Command::Solve { form, budget }) => {
+            let (solved, pass) = solve_file(alloc, form, budget, pass, user);
+            Outcome {
+                status: status_of_solves(solved),
+                pass,
+            }
+        }
+        Some(Command::Drill(rounds)) => {
+            let (drilled, pass) = drill(alloc, rounds, pass, user);
+            Outcome {
+                status: status_of_drill(drilled),
+                pass,
+            }
+        }
     }
 }
 
@@ -103,9 +102,27 @@ fn status_of(how: How) -> u8
     }
 }
 
+/// The exit status of a command over an input that ended so.
+fn status_of_file(done: Done) -> u8
+    ensures value { result ≡ done_status done }
+    ensures whole { UndisturbedIsAnswered }
+    ensures not_two { result ≢ 2 }
+{
+    undisturbed_is_answered();
+    match done {
+        Done::Accepted => 0,
+        Done::Refused => 1,
+        Done::NoMemory => 3,
+        Done::ReadFault => 4,
+        Done::WriteFault => 5,
+        Done::TooMuch => 8,
+    }
+}
+
 /// What a status from 1 to 9 means, for people; nothing for every other status.
 pub fn fault_text(status: u8) -> &'static str {
     match status {
+        1 => "input refused",
         2 => "unknown command",
         3 => "out of memory",
         4 => "read failed",

@@ -14,7 +14,7 @@ const FIRST: &[u8] = b"add 1 2 0\nadd -1 0\nsolve\nwait\nmodel\nbye\n";
 const FIRST_ANSWERS: &[u8] = b"ok\nok\nstarted 1\nsat 1\nmodel -1 2 0\nbye\n";
 
 /// Sessions with their answers.
-const SESSIONS: [(&[u8], &[u8]); 15] = [
+const SESSIONS: [(&[u8], &[u8]); 18] = [
     (FIRST, FIRST_ANSWERS),
     (b"", b""),
     (
@@ -58,8 +58,17 @@ const SESSIONS: [(&[u8], &[u8]); 15] = [
         b"refused 1 1\nrefused 2 10\nrefused 3 12\nrefused 4 13\nrefused 5 14\nrefused 6 1\nrefused 7 11\nguard 1\nrefused 9 6\nrefused 10 7\nok\nrefused 12 8\nimplied 0\nrefused 14 5\nok\nstarted 1\nrefused 17 4\nsat 1\nmodel 0\nvars 1048576\nrefused 21 9\nbye\n",
     ),
     (
-        b"load cnf 3\nvars 2\nvars 1\n\nbye\nvars 3\n",
+        b"load aig 3\nvars 2\nvars 1\n\nbye\nvars 3\n",
         b"refused 1 1\nvars 2\nvars 2\nrefused 4 1\nbye\n",
+    ),
+    (
+        b"load cnf 16\np cnf 2 1\n1 x 0\nvars 0\n",
+        b"refused 1 16 2 word\nvars 0\n",
+    ),
+    (b"load cnf 100\np cnf\n", b"refused 1 1\n"),
+    (
+        b"load cnf 21\np cnf 2 2\n1 2 0\n-1 0\nsolve\nwait\nmodel\n",
+        b"loaded cnf 2 2\nstarted 1\nsat 1\nmodel -1 2 0\n",
     ),
     (
         b"add 0\nsolve\npoll\nwait\nmodel\nknown\nclause 1\n",
@@ -71,11 +80,80 @@ const SESSIONS: [(&[u8], &[u8]); 15] = [
     ),
 ];
 
+/// Three pigeons in two holes.
+const PIGEONS: &[u8] =
+    b"p cnf 6 9\n1 2 0\n3 4 0\n5 6 0\n-1 -3 0\n-1 -5 0\n-3 -5 0\n-2 -4 0\n-2 -6 0\n-4 -6 0\n";
+
+/// Commands over an input, with their output and their status.
+const FILES: [(&str, &[u8], &[u8], u8); 17] = [
+    ("check cnf", b"p cnf 2 9\n1 -2\n0\n", b"cnf 2 1\n", 0),
+    (
+        "convert cnf",
+        b"p cnf 2 9\n1 -2\n0\n",
+        b"p cnf 2 1\n1 -2 0\n",
+        0,
+    ),
+    (
+        "check cnf",
+        b"c small example\np cnf 3 2\n1 -3 0\n2 3 -1 0\n%\n0\n",
+        b"cnf 3 2\n",
+        0,
+    ),
+    (
+        "convert cnf",
+        b"c small example\np cnf 3 2\n1 -3 0\n2 3 -1 0\n%\n0\n",
+        b"p cnf 3 2\n1 -3 0\n2 3 -1 0\n",
+        0,
+    ),
+    ("check cnf", b"", b"refused 1 header\n", 1),
+    (
+        "check icnf",
+        b"p inccnf\n1 2 0\na -1 -2 0\n-1 0\na 2 0\n",
+        b"icnf 2 2 2\n",
+        0,
+    ),
+    (
+        "solve icnf",
+        b"p inccnf\n1 2 0\na -1 -2 0\n-1 0\na 2 0\n",
+        b"s UNSATISFIABLE\ns SATISFIABLE\nv -1 2 0\n",
+        10,
+    ),
+    (
+        "solve cnf",
+        b"p cnf 12 12\n-1 0 2 0 -3 0 4 0 -5 0 6 0\n-7 0 8 0 -9 0 10 0 -11 0 12 0\n",
+        b"s SATISFIABLE\nv -1 2 -3 4 -5 6 -7 8 -9 10 -11 12\nv 0\n",
+        10,
+    ),
+    ("solve cnf", PIGEONS, b"s UNSATISFIABLE\n", 20),
+    ("solve cnf --budget 1", PIGEONS, b"s UNKNOWN\n", 0),
+    ("solve cnf", b"p cnf 0 0\n", b"s SATISFIABLE\nv 0\n", 10),
+    ("solve icnf", b"p inccnf\n1 0\n", b"", 0),
+    ("solve cnf", b"p cnf 1 1\n1 x 0\n", b"refused 2 word\n", 1),
+    ("solve cnf --budget 0", b"p cnf 0 0\n", b"", 2),
+    ("walk", b"p cnf 0 0\n", b"", 2),
+    ("drill 10001", b"", b"", 2),
+    (
+        "drill 3",
+        b"",
+        b"drill 3\nvars 151\nclauses 600\nsat 2\nunsat 3\n",
+        0,
+    ),
+];
+
 /// The words `run`, or `run -q`.
 fn words_of(alloc: Global, quiet: bool) -> Result<Vec<String>, AllocError> {
     let mut words = vec![in alloc; String::from_str(alloc, "run")?]?;
     if quiet {
         words.push(String::from_str(alloc, "-q")?)?;
+    }
+    Ok(words)
+}
+
+/// The words of a line.
+fn parted(alloc: Global, line: &str) -> Result<Vec<String>, AllocError> {
+    let mut words = Vec::new(alloc);
+    for word in line.split(' ') {
+        words.push(String::from_str(alloc, word)?)?;
     }
     Ok(words)
 }
@@ -97,6 +175,20 @@ fn expect(
     assert_eq!(rt; user.written(), output);
     assert_eq!(rt; outcome.status, status);
     Ok(outcome.pass)
+}
+
+#[test]
+fn inputs(rt: HostRuntime) -> Result<(), Fail> {
+    let alloc = rt.alloc();
+    for (line, input, output, status) in FILES {
+        let words = parted(alloc, line)?;
+        let (room, pass) = Room::open(alloc)?;
+        let mut user = link(alloc, input)?;
+        let outcome = run(alloc, words.as_slice(), &room, pass, &mut user);
+        assert_eq!(rt; user.written(), output, "{line}");
+        assert_eq!(rt; outcome.status, status, "{line}");
+    }
+    Ok(())
 }
 
 /// A link that gives the input all at once.
@@ -316,7 +408,7 @@ fn each_line_after_the_last_answer(rt: HostRuntime) -> Result<(), Fail> {
 fn fault_texts(rt: HostRuntime) {
     for (status, text) in [
         (0, ""),
-        (1, ""),
+        (1, "input refused"),
         (2, "unknown command"),
         (3, "out of memory"),
         (4, "read failed"),

@@ -38,6 +38,14 @@ impl Visit {
         }
     }
 
+    /// Leaves the pass as it is.
+    pub fn leave(self) -> Pass
+        ensures same { standing result ≡ self }
+        ensures kept { IsHistory result.history }
+    {
+        self.pass
+    }
+
     /// Ends the session, and shuts the machine where a call is left.
     pub fn end(self) -> Pass
         ensures shut { Shuts self (standing result) }

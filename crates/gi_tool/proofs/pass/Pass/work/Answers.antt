@@ -1,4 +1,4 @@
-use Rattle.std.proofs.Common.{sym, ap, ◌∙◌}
+use Rattle.std.proofs.Common.{ap, ◌∙◌}
 use Rattle.gi_model.specs.State.{phase_of}
 use Rattle.gi_model.specs.declared.calls.Call.TheVariants as call
 use Rattle.gi_tool.specs.Seen.{Seen, state_after}

@@ -1,0 +1,53 @@
+// Files, solved on a pass.
+ghost use Rattle.std.specs.Prelude.{◌≡◌, ◌≢◌, ◌≤◌};
+ghost use Rattle.gi_tool.specs.Solving.{HasSolved, solved_status};
+
+use crate::pass::Pass;
+use crate::visit::Visit;
+use gi_files::Form;
+use gi_outside::Link;
+use gi_solving::{
+    Solved, calls_are_answered, failures_are_true, models_are_true, solve, unknown_is_spent,
+};
+use std::alloc::Global;
+
+/// Reads a file, and solves it by calls on the pass.
+pub fn solve_file<L: Link>(
+    alloc: Global,
+    form: Form,
+    budget: u32,
+    pass: Pass,
+    user: &mut L,
+) -> (Solved, Pass)
+    requires { 1 ≤ budget }
+    ensures { HasSolved result.0 form budget (L.state user.old) (L.state user.new) pass result.1 }
+{
+    calls_are_answered();
+    models_are_true();
+    failures_are_true();
+    unknown_is_spent();
+    match Visit::begin(pass) {
+        Ok(mut visit) => {
+            let solved = solve(alloc, form, budget, &mut visit, user);
+            (solved, visit.leave())
+        }
+        Err(pass) => (Solved::NoMemory, pass),
+    }
+}
+
+/// The exit status of solves that ended so.
+pub fn status_of_solves(solved: Solved) -> u8
+    ensures value { result ≡ solved_status solved }
+    ensures not_two { result ≢ 2 }
+{
+    match solved {
+        Solved::Sat => 10,
+        Solved::Unsat => 20,
+        Solved::Unknown => 0,
+        Solved::Refused => 1,
+        Solved::NoMemory | Solved::Denied => 3,
+        Solved::ReadFault => 4,
+        Solved::WriteFault => 5,
+        Solved::TooMuch => 8,
+    }
+}
