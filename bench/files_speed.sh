@@ -40,7 +40,7 @@ for file in "$folder"/*.cnf; do
     beside=$(awk -v n="$nanoseconds" 'BEGIN { printf "  minisat %8.2f s", n / 1e9 }')
   fi
   awk -v name="$name" -v n="$ours" -v beside="$beside" '
-    /^refused / { verdict = "refused" } /^nomem/ { verdict = "nomem" }
-    /^(sat|unsat|unknown) / { verdict = $1 } /^known / { learnt = $2 }
+    verdict == "" && /^(refused|nomem)/ { verdict = $1 }
+    verdict == "" && /^(sat|unsat|unknown) / { verdict = $1 } /^known / { learnt = $2 }
     END { printf "%-32s %-8s %10.2f s  %8d conflicts%s\n", name, verdict, n / 1e9, learnt, beside }' "$work/output"
 done

@@ -6,13 +6,11 @@ ghost use Rattle.gi_prop.specs.Attached.{Attached, Goes};
 ghost use Rattle.gi_cdcl.specs.Sound.{IsUsed};
 ghost use Rattle.gi_cdcl.specs.Values.{AllAssigned, IsPassed, IsValueOf, IsAssignment};
 
+use crate::order::Order;
 use gi_lit::{Assign, Lit, Var};
 use gi_prop::Trail;
 use gi_store::Store;
 use std::alloc::{AllocError, Global};
-
-// The most variables that are remembered of learnt clauses, but for the last clause.
-const MOST_RECENT: usize = 1024;
 
 /// The variable behind `i` others.
 fn variable(i: u32) -> Var
@@ -32,14 +30,6 @@ fn literal(v: Var, phase: bool) -> Lit
     if phase { v.positive() } else { v.negative() }
 }
 
-/// The last value of a variable; false of one that never had a value.
-fn phase_of(phases: &[bool], v: Var) -> bool {
-    match phases.get((v.index() - 1) as usize) {
-        Some(phase) => *phase,
-        None => false,
-    }
-}
-
 /// The literal to decide of a variable: none where it has a value, and of a variable that is no more in use.
 fn candidate(store: &Store, trail: &Trail, v: Var, phase: bool) -> Option<Lit>
     requires { v ≤ trail.now.vars }
@@ -56,15 +46,15 @@ fn candidate(store: &Store, trail: &Trail, v: Var, phase: bool) -> Option<Lit>
     }
 }
 
-/// A literal to decide, of the newest variable that has no value.
-fn newest_free(store: &Store, trail: &Trail, phases: &[bool], recent: &[Var]) -> Option<Lit>
+/// A literal to decide, of the first variable in the order that has no value.
+fn first_free(store: &Store, trail: &Trail, order: &mut Order) -> Option<Lit>
     ensures { IfSome result (λ l. (l / 2 ≤ trail.now.vars) × HasValue trail.now.lits l None) }
 {
     let vars = trail.vars();
-    for place in 0..recent.len() {
-        let v = recent[recent.len() - 1 - place];
+    for _entry in 0..order.len() {
+        let v = order.take()?;
         if v.index() as usize <= vars {
-            let free = candidate(store, trail, v, phase_of(phases, v));
+            let free = candidate(store, trail, v, order.phase(v));
             if free.is_some() {
                 return free;
             }
@@ -73,27 +63,12 @@ fn newest_free(store: &Store, trail: &Trail, phases: &[bool], recent: &[Var]) ->
     None
 }
 
-/// Remembers the variables of a learnt clause as the newest, and forgets the oldest where there are many. For want of memory it remembers fewer.
-pub(crate) fn remember(recent: &mut Vec<Var>, clause: &[Lit]) {
-    if recent.len() >= MOST_RECENT {
-        let half = recent.len() / 2;
-        recent.rotate_left(half);
-        recent.truncate(half);
-    }
-    for l in clause {
-        if recent.push(l.var()).is_err() {
-            return;
-        }
-    }
-}
-
-/// A literal to decide: of the newest variable that has no value, else of the least, where the first `passed` variables are known to have one. None
-/// exactly where all that is in use has a value.
+/// A literal to decide, with the last value of its variable: of the first variable in the order that has no value, else of the least, where the first
+/// `passed` variables are known to have one. None exactly where all that is in use has a value.
 pub(crate) fn free_literal(
     store: &Store,
     trail: &Trail,
-    phases: &[bool],
-    recent: &[Var],
+    order: &mut Order,
     passed: &mut u32,
 ) -> Option<Lit>
     requires vars { store.now.vars ≤ trail.now.vars }
@@ -102,15 +77,15 @@ pub(crate) fn free_literal(
     ensures full { IfNone result (AllAssigned store.now trail.now.lits) }
     ensures passed { IsPassed store.now trail.now.lits passed.new }
 {
-    match newest_free(store, trail, phases, recent) {
+    match first_free(store, trail, order) {
         Some(l) => Some(l),
-        None => least_free(store, trail, phases, passed),
+        None => least_free(store, trail, order, passed),
     }
 }
 
-/// A literal to decide, of the least variable that has no value, where the first `passed` variables are known to have one; its phase is the last
-/// value. None exactly where all that is in use has a value. Counts the variables that have.
-fn least_free(store: &Store, trail: &Trail, phases: &[bool], passed: &mut u32) -> Option<Lit>
+/// A literal to decide, of the least variable that has no value, where the first `passed` variables are known to have one. None exactly where all
+/// that is in use has a value. Counts the variables that have.
+fn least_free(store: &Store, trail: &Trail, order: &Order, passed: &mut u32) -> Option<Lit>
     requires vars { store.now.vars ≤ trail.now.vars }
     requires passed { IsPassed store.now trail.now.lits passed.old }
     ensures free { IfSome result (λ l. (l / 2 ≤ trail.now.vars) × HasValue trail.now.lits l None) }
@@ -120,7 +95,7 @@ fn least_free(store: &Store, trail: &Trail, phases: &[bool], passed: &mut u32) -
     let vars = store.vars();
     while *passed < vars {
         let v = variable(*passed);
-        match candidate(store, trail, v, phase_of(phases, v)) {
+        match candidate(store, trail, v, order.phase(v)) {
             Some(l) => return Some(l),
             None => *passed += 1,
         }
@@ -172,20 +147,16 @@ pub(crate) fn assignment(alloc: Global, trail: &Trail, n: u32) -> Result<Assign,
     Ok(Assign::from_vec(values))
 }
 
-/// Keeps the values of the variables whose literals stand from a place on, and gives a number that none of these variables is below.
-pub(crate) fn save_phases(phases: &mut [bool], trail: &Trail, start: usize) -> u32
+/// Gives the variables back to the order whose literals stand from a place on, and a number that none of these variables is below.
+pub(crate) fn give_back(order: &mut Order, trail: &Trail, start: usize) -> u32
     ensures { (k : ℕ) → start ≤ k → k < length trail.now.lits → result ≤ slice_index trail.now.lits k / 2 }
 {
     let mut least = u32::MAX;
     let lits = trail.lits();
     for place in start..lits.len() {
         let l = lits[place];
-        let v = l.var().index();
-        let at = (v - 1) as usize;
-        if at < phases.len() {
-            phases[at] = !l.is_negative();
-        }
-        least = least.min(v);
+        order.give_back(l);
+        least = least.min(l.var().index());
     }
     least
 }

@@ -1,4 +1,5 @@
-use gi_lit::{Clause, Var};
+use crate::order::Order;
+use gi_lit::Clause;
 use gi_prop::{Prop, Trail};
 use std::alloc::Global;
 
@@ -8,10 +9,8 @@ pub(crate) struct Engine {
     pub alloc: Global,
     pub trail: Trail,
     pub prop: Prop,
-    /// The last value of each variable.
-    pub phases: Vec<bool>,
-    /// The variables of the clauses learnt last, the newest last; one may stand more than once.
-    pub recent: Vec<Var>,
+    /// In which order variables are decided.
+    pub order: Order,
     /// So many variables have a value, as far as they are in use.
     pub vars_passed: u32,
     /// So many assumptions are true.

@@ -99,11 +99,12 @@ fn resolve(store: &Store, trail: &Trail, conflict: &[Lit], seen: &mut [bool]) ->
     unreachable!()
 }
 
-/// What a conflict teaches: a clause, and the level to go back to.
+/// What a conflict teaches: a clause, the level to go back to, and which places of the trail it met.
 #[derive(Drop)]
 pub(crate) struct Learnt {
     pub clause: Lits,
     pub level: u32,
+    pub seen: Vec<bool>,
 }
 
 fn negation(lits: &[Lit], place: usize) -> Lit
@@ -163,5 +164,9 @@ pub(crate) fn analyze(
         None => 0,
         Some(place) => level_at(trail, place),
     };
-    Ok(Learnt { clause, level })
+    Ok(Learnt {
+        clause,
+        level,
+        seen,
+    })
 }

@@ -8,6 +8,7 @@ mod empty;
 mod engine;
 pub mod laws;
 mod learn;
+mod order;
 mod run;
 mod search;
 mod slice;

@@ -100,20 +100,10 @@ fn begin<B: Brake>(
 {
     let vars = store.vars();
     engine.trail.grow(vars)?;
-    grow_phases(&mut engine.phases, vars as usize)?;
+    engine.order.grow(vars)?;
     engine.vars_passed = 0;
     engine.assumed_passed = 0;
     run(engine, store, assumed, bounds, brake, progress)
-}
-
-/// Makes the count of phases at least n.
-fn grow_phases(phases: &mut Vec<bool>, n: usize) -> Result<(), AllocError> {
-    let more = n.saturating_sub(phases.len());
-    phases.reserve(more)?;
-    for _i in 0..more {
-        phases.push(false)?;
-    }
-    Ok(())
 }
 
 /// Asks the brake, and searches if it lets it.

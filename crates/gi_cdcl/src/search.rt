@@ -6,8 +6,9 @@ ghost use Rattle.gi_cdcl.specs.Ends.{Slices};
 ghost use Rattle.gi_cdcl.specs.declared.slice.Slice.TheVariants.{NoMemory};
 
 use crate::brake::Brake;
-use crate::decide::save_phases;
+use crate::decide::give_back;
 use crate::engine::{Bounds, Engine, Progress};
+use crate::order::Order;
 use crate::run::start;
 use crate::slice::Sliced;
 use gi_lit::{Clauses, Lit};
@@ -44,8 +45,7 @@ impl Search {
             alloc,
             trail: Trail::new(alloc),
             prop: Prop::new(alloc),
-            phases: Vec::new(alloc),
-            recent: Vec::new(alloc),
+            order: Order::new(alloc),
             vars_passed: 0,
             assumed_passed: 0,
         };
@@ -112,7 +112,7 @@ impl Search {
             brake,
             &mut progress,
         );
-        save_phases(&mut self.engine.phases, &self.engine.trail, 0);
+        give_back(&mut self.engine.order, &self.engine.trail, 0);
         self.engine.trail.clear();
         Sliced {
             news: Clauses::from_vec(progress.news),

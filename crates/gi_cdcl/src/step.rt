@@ -43,8 +43,7 @@ fn decide_variable(engine: &mut Engine, store: &Store) -> Result<Step, AllocErro
     match free_literal(
         store,
         &engine.trail,
-        &engine.phases,
-        engine.recent.as_slice(),
+        &mut engine.order,
         &mut engine.vars_passed,
     ) {
         Some(l) => {

@@ -10,7 +10,7 @@ ghost use Rattle.gi_cdcl.specs.Going.{IsTied, IsReady, IsGoing, HasLearnt, HasSt
 ghost use Rattle.gi_cdcl.specs.Steps.{AddsNews, LeadsTo};
 ghost use Rattle.gi_cdcl.specs.declared.step.Step.TheVariants.{Learnt};
 
-use crate::decide::{remember, save_phases};
+use crate::decide::give_back;
 use crate::empty::has_empty;
 use crate::engine::Engine;
 use crate::learn::analyze;
@@ -74,9 +74,9 @@ fn learn(
     let _vars = store.vars();
     let _level = engine.trail.level();
     let learnt = analyze(engine.alloc, store, &engine.trail, conflict)?;
-    remember(&mut engine.recent, learnt.clause.as_slice());
+    engine.order.raise(engine.trail.lits(), &learnt.seen);
     let start = engine.trail.start_of(learnt.level);
-    let least = save_phases(&mut engine.phases, &engine.trail, start);
+    let least = give_back(&mut engine.order, &engine.trail, start);
     engine.trail.cancel_to(learnt.level);
     engine.vars_passed = still_passed(engine.vars_passed, least);
     engine.assumed_passed = 0;
