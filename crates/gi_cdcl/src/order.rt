@@ -118,7 +118,7 @@ impl Order {
                 }
             }
         }
-        self.rise += self.rise / 16;
+        self.rise = self.rise.saturating_add(self.rise / 16);
         if self.rise >= MOST_RISE {
             self.scale_down();
         }
