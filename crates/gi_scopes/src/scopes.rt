@@ -62,7 +62,7 @@ impl Scopes {
 
     /// Opens a scope with these assumptions. By the clauses of the problem alone, never by learnt ones, unit closure under the assumptions of all
     /// open scopes and these either conflicts, or lists the literals of problem variables that are new. It fails exactly where the closure conflicts
-    /// or an open scope has failed. The counter rises once for each literal of the closure. Unchanged for want of memory.
+    /// or an open scope has failed. Steps are counted on `steps`; how many a test takes isn't promised. Unchanged for want of memory.
     pub fn test<L: Ledger>(&mut self, store: &Store, assumed: Lits, steps: &mut Steps<L>) -> Tested
         requires depth { length self.old.scopes < 4294967295 }
         requires assumed { IsWithin store.now.vars assumed }
