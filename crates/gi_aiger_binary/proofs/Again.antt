@@ -1,8 +1,6 @@
 -- What was written, read and written again.
 use Rattle.std.proofs.Common.{◌≡◌, ℕ, List, Ok, sym, ap, ◌∙◌, subst, inr}
 use Rattle.gi_aiger.specs.declared.aig.Aig.{Aig}
-use Rattle.gi_aiger.specs.Files.{read_file}
-use Rattle.gi_aiger.specs.Good.{IsGood}
 use Rattle.gi_aiger.specs.Relation.{IsAig, IsBinary}
 use Rattle.gi_aiger.proofs.Accepting.{said_read}
 use Rattle.gi_aiger_binary.specs.Laws.{WrittenAgain}

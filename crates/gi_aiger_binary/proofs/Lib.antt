@@ -19,3 +19,4 @@ pub mod Staying
 pub mod Deserved
 pub mod Saying
 pub mod Again
+pub mod Keeping

@@ -1,9 +1,11 @@
 -- The text of a value that was numbered anew is read as that value.
-use Rattle.std.proofs.Common.{Ok, sym, subst}
+use Rattle.std.proofs.Common.{Ok, inr, sym, subst}
 use Rattle.gi_aiger.specs.declared.aig.Aig.{Aig}
 use Rattle.gi_aiger.specs.Answers.{Answer}
 use Rattle.gi_aiger.specs.Files.{read_file}
+use Rattle.gi_aiger.specs.Good.{IsGood}
 use Rattle.gi_aiger.specs.Relation.{IsBinary}
+use Rattle.gi_aiger.proofs.Deserving.{said_good}
 use Rattle.gi_aiger_binary.specs.Numbered.{IsNumbered, IsInLimits}
 use Rattle.gi_aiger_binary.specs.Renumbering.{IsRenumbered}
 use Rattle.gi_aiger_binary.specs.Sound.{IsSound}
@@ -20,3 +22,6 @@ renumbered_read v w sound r = let g = renumbered_good v w sound r in answered w 
 
 pub renumbered_said : (v w : Aig) → IsSound v → IsRenumbered v w → IsBinary w (binary_text w)
 renumbered_said v w sound r = let g = renumbered_good v w sound r in text_said w g.0 g.1
+
+pub numbered_good : (v w : Aig) → IsSound v → IsRenumbered v w → IsGood w × IsBinary w (binary_text w)
+numbered_good v w sound r = let said = renumbered_said v w sound r in (said_good w (binary_text w) (inr said), said)

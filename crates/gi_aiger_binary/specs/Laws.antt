@@ -6,7 +6,8 @@ use Rattle.gi_aiger.specs.Files.{read_file}
 use Rattle.gi_aiger.specs.Good.{IsGood}
 use Rattle.gi_aiger.specs.Relation.{IsAig, IsBinary}
 use Rattle.gi_aiger_binary.specs.Numbered.{IsNumbered, IsInLimits}
-use Rattle.gi_aiger_binary.specs.Renumbering.{IsRenumbered}
+use Rattle.gi_aiger_binary.specs.Renumbering.{IsRenumbered, number_in, variables_of}
+use Rattle.gi_aiger_binary.specs.Meaning.{MeansTheSame}
 use Rattle.gi_aiger_binary.specs.Sound.{IsSound, IsWritable}
 use Rattle.gi_aiger_binary.specs.Texts.{binary_text}
 use Rattle.gi_aiger_binary.specs.Written.{IsWritten}
@@ -34,3 +35,11 @@ WrittenAgain = (v u : Aig) (bytes again : List ℕ) → IsGood v → IsWritten v
 -- a value that some file says can be written, and is sound
 abbrev pub GoodIsWritable : Type 0
 GoodIsWritable = (v : Aig) → IsGood v → IsWritable v × IsSound v
+
+-- a sound value, numbered anew, is a value that a file says: what is written of it is a file of the binary form that says it
+abbrev pub NumberedIsGood : Type 0
+NumberedIsGood = (v w : Aig) → IsSound v → IsRenumbered v w → IsGood w × IsBinary w (binary_text w)
+
+-- a value, numbered anew, means the same
+abbrev pub MeaningStays : Type 0
+MeaningStays = (v w : Aig) (r : IsRenumbered v w) → MeansTheSame (number_in (variables_of v r.gates)) v w

@@ -7,4 +7,5 @@ pub mod Texts
 pub mod Written
 pub mod Numbered
 pub mod Sound
+pub mod Meaning
 pub mod Laws

@@ -8,7 +8,10 @@ mod order;
 mod renumbering;
 mod writing;
 
-pub use laws::{good_is_writable, numbers_stay, texts_are_read_back, values_are_numbered};
+pub use laws::{
+    good_is_writable, meaning_stays, numbered_is_good, numbers_stay, texts_are_read_back,
+    values_are_numbered,
+};
 pub use renumbering::renumber;
 pub use writing::write_binary;
 
