@@ -97,7 +97,6 @@ module _ (v : Aig) (g : good.IsGood v) where
       let fits = g.fits in
       record {
         room = omega (arith, fits, most);
-        within = λ k lt. (let d = gates_defining k (record { lhs = 0; rhs0 = 0; rhs1 = 0 }) lt in let le = d.2 in omega arith);
         apart = gates_apart;
         levels = s.levels;
       }

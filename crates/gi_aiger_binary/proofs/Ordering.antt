@@ -9,7 +9,26 @@ use Rattle.gi_levels.specs.declared.levels.Node.{Node}
 use Rattle.gi_levels.specs.Levels as levels
 use Rattle.gi_aiger.specs.Levels.{gate_at, HasLevels, IsDistinct}
 use Rattle.gi_aiger_binary.specs.Levels.{var_at, AreLevels, ranked_from}
-use Rattle.gi_aiger_binary.specs.Order.{place_of, IsTable, operands_in, ranks_from}
+use Rattle.gi_aiger_binary.specs.Order.{place_of, IsGreatest, IsTable, operands_in, ranks_from}
+
+-- the greatest of no gates, and of one gate more
+pub IsGreatest-none : (gates : List AndGate) → IsGreatest gates 0 0
+IsGreatest-none gates = record { within = λ k lt. absurd (omega arith); there = inl refl }
+
+pub IsGreatest-more : (gates : List AndGate) (i most : ℕ) → IsGreatest gates i most → IsGreatest gates (i + 1) (max (var_at gates i) most)
+IsGreatest-more gates i most m = record {
+  within = λ k lt. elim (cases_eq k i) [
+    | inl e ↦ subst (λ (z : ℕ). var_at gates z ≤ max (var_at gates i) most) (sym e) (omega arith)
+    | inr ne ↦ let w = m.within k (omega arith) in omega arith
+  ];
+  there = elim (cases_lt most (var_at gates i)) [
+    | inl lt ↦ inr (i, omega arith, omega arith)
+    | inr le ↦ elim m.there [
+      | inl none ↦ inl (omega arith)
+      | inr p ↦ inr (p.0, (let lt = p.1 in omega arith), (let e = p.2 in omega arith))
+    ]
+  ];
+}
 
 pub IsTable-none : (gates : List AndGate) (max : ℕ) → IsTable gates 0 max (replicate (max + 1) (length gates))
 IsTable-none gates max = record {

@@ -1,5 +1,5 @@
 -- How gates are put in order: by a table of the places of the gates that define variables.
-use Rattle.std.specs.Prelude.{◌≡◌, ℕ, suc, ◌+◌, ◌/◌, ◌<◌, if◌then◌else◌, nat_lt, List, [], ◌∷◌, length, slice_index}
+use Rattle.std.specs.Prelude.{◌≡◌, ℕ, suc, ◌+◌, ◌/◌, ◌<◌, ◌≤◌, ◌⊎◌, if◌then◌else◌, nat_lt, List, [], ◌∷◌, length, slice_index}
 use Rattle.gi_aiger.specs.declared.aig.AndGate.{AndGate}
 use Rattle.gi_levels.specs.declared.levels.Node.{Node}
 use Rattle.gi_aiger_binary.specs.Levels.{var_at}
@@ -8,9 +8,14 @@ use Rattle.gi_aiger_binary.specs.Levels.{var_at}
 abbrev pub place_of : List ℕ → ℕ → ℕ → ℕ
 place_of table none v = if nat_lt v (length table) then slice_index table v else none
 
+-- the greatest variable that one of the first n gates defines; 0 where there are none
+pub record IsGreatest (gates : List AndGate) (n most : ℕ) : Type 0 where
+  pub within : (k : ℕ) → k < n → var_at gates k ≤ most
+  pub there : (most ≡ 0) ⊎ ((k : ℕ) × (k < n) × (var_at gates k ≡ most))
+
 -- the first n gates stand in the table, and nothing else
-pub record IsTable (gates : List AndGate) (n max : ℕ) (table : List ℕ) : Type 0 where
-  pub len : length table ≡ max + 1
+pub record IsTable (gates : List AndGate) (n most : ℕ) (table : List ℕ) : Type 0 where
+  pub len : length table ≡ most + 1
   pub known : (k : ℕ) → k < n → slice_index table (var_at gates k) ≡ k
   pub sound : (v : ℕ) → v < length table → slice_index table v < length gates → (slice_index table v < n) × (var_at gates (slice_index table v) ≡ v)
 

@@ -5,14 +5,12 @@ use Rattle.gi_aiger.specs.declared.aig.Aig.{Aig}
 use Rattle.gi_aiger.specs.declared.aig.AndGate.{AndGate}
 use Rattle.gi_aiger.specs.declared.aig.Latch.{Latch}
 use Rattle.gi_aiger.specs.Levels.{HasLevels, IsDistinct}
-use Rattle.gi_aiger_binary.specs.Levels.{var_at}
 use Rattle.gi_aiger_binary.specs.Renumbering.{variables_of}
 use Rattle.gi_aiger_binary.specs.Numbered.{IsInLimits}
 
--- no cycle of gates, no variable that two gates define, no gate's variable above the greatest, and room for the new numbers
+-- no cycle of gates, no variable that two gates define, and room for the new numbers
 pub record IsWritable (v : Aig) : Type 0 where
   pub room : length v.inputs + length v.latches + length v.gates < 2 ^ 31
-  pub within : (k : ℕ) → k < length v.gates → var_at v.gates k ≤ v.max
   pub apart : IsDistinct v.gates
   pub levels : HasLevels v.gates
 

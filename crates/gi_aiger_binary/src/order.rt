@@ -3,8 +3,8 @@ ghost use Rattle.std.specs.Prelude.{◌≡◌, ◌/◌, ◌<◌, ◌≤◌, ℕ,
 ghost use Rattle.std.specs.List.Sorted.{IsPermutation, IsSorted};
 ghost use Rattle.std.specs.Ordering.{nat_cmp, ordering_then};
 ghost use Rattle.gi_aiger.specs.Levels.{HasLevels, IsDistinct};
-ghost use Rattle.gi_aiger_binary.specs.Levels.{AreLevels, AreInOrder, IsByLevel, gates_at, var_at};
-ghost use Rattle.gi_aiger_binary.specs.Order.{place_of, IsTable, operands_in, ranks_from};
+ghost use Rattle.gi_aiger_binary.specs.Levels.{AreLevels, AreInOrder, IsByLevel, gates_at};
+ghost use Rattle.gi_aiger_binary.specs.Order.{place_of, IsGreatest, IsTable, operands_in, ranks_from};
 
 use gi_aiger::AndGate;
 use gi_levels::{Levels, Node as Operands, levels_of};
@@ -15,17 +15,12 @@ use std::alloc::{AllocError, Global};
 pub(crate) type Rank = (usize, usize);
 
 /// The gates by level, and within a level in their order.
-pub(crate) fn by_level(
-    alloc: Global,
-    max: u32,
-    gates: &[AndGate],
-) -> Result<Vec<AndGate>, AllocError>
-    requires within { (k : ℕ) → k < length gates.now → var_at gates.now k ≤ max }
+pub(crate) fn by_level(alloc: Global, gates: &[AndGate]) -> Result<Vec<AndGate>, AllocError>
     requires apart { IsDistinct gates.now }
     requires levels { HasLevels gates.now }
     ensures { IfOk result (λ ordered. IsByLevel gates.now ordered.items) }
 {
-    let ranks = gates_by_level(alloc, max, gates)?;
+    let ranks = gates_by_level(alloc, gates)?;
     in_order(alloc, gates, &ranks)
 }
 
@@ -42,13 +37,13 @@ fn in_order(alloc: Global, gates: &[AndGate], ranks: &[Rank]) -> Result<Vec<AndG
 }
 
 /// The ranks of all gates, in order.
-fn gates_by_level(alloc: Global, max: u32, gates: &[AndGate]) -> Result<Vec<Rank>, AllocError>
-    requires within { (k : ℕ) → k < length gates.now → var_at gates.now k ≤ max }
+fn gates_by_level(alloc: Global, gates: &[AndGate]) -> Result<Vec<Rank>, AllocError>
     requires apart { IsDistinct gates.now }
     requires acyclic { HasLevels gates.now }
     ensures { IfOk result (λ ranks. (level : ℕ → ℕ) × AreLevels gates.now level × AreInOrder gates.now level ranks.items) }
 {
-    let table = places(alloc, max, gates)?;
+    let most = greatest(gates);
+    let table = places(alloc, most, gates)?;
     let operands = operands(alloc, &table, gates)?;
     match levels_of(alloc, &operands)? {
         Levels::Found(levels) => ranked(alloc, &levels),
@@ -56,13 +51,25 @@ fn gates_by_level(alloc: Global, max: u32, gates: &[AndGate]) -> Result<Vec<Rank
     }
 }
 
-/// For each variable the place of the gate that defines it; what no gate defines has one past the last.
-fn places(alloc: Global, max: u32, gates: &[AndGate]) -> Result<Vec<usize>, AllocError>
-    requires within { (k : ℕ) → k < length gates.now → var_at gates.now k ≤ max }
-    requires apart { IsDistinct gates.now }
-    ensures { IfOk result (λ t. IsTable gates.now (length gates.now) max t.items) }
+/// The greatest variable that a gate defines; 0 where there are no gates. A table of variables has room up to it, and not up to the
+/// greatest that a value may name.
+fn greatest(gates: &[AndGate]) -> u32
+    ensures { IsGreatest gates.now (length gates.now) result }
 {
-    let mut table = vec![in alloc; gates.len(); max as usize + 1]?;
+    let mut most = 0;
+    for gate in gates {
+        most = gate.lhs.node().max(most);
+    }
+    most
+}
+
+/// For each variable up to the greatest of gates, the place of the gate that defines it; what no gate defines has one past the last.
+fn places(alloc: Global, most: u32, gates: &[AndGate]) -> Result<Vec<usize>, AllocError>
+    requires most { IsGreatest gates.now (length gates.now) most }
+    requires apart { IsDistinct gates.now }
+    ensures { IfOk result (λ t. IsTable gates.now (length gates.now) most t.items) }
+{
+    let mut table = vec![in alloc; gates.len(); most as usize + 1]?;
     for (place, gate) in gates.iter().enumerate() {
         table[gate.lhs.node() as usize] = place;
     }

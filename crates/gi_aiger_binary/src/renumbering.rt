@@ -35,10 +35,11 @@ fn gate(numbers: &[u32], gate: AndGate) -> AndGate
 {
     let left = literal(numbers, gate.rhs0).code();
     let right = literal(numbers, gate.rhs1).code();
+    let (greater, lesser) = (left.max(right), left.min(right));
     AndGate {
         lhs: literal(numbers, gate.lhs),
-        rhs0: Edge::new(left.max(right)),
-        rhs1: Edge::new(left.min(right)),
+        rhs0: Edge::new(greater),
+        rhs1: Edge::new(lesser),
     }
 }
 
@@ -154,13 +155,14 @@ fn numbered(
 /// The same value with its variables numbered from 1: inputs in order, then latches in order, then gates by level and within a
 /// level in their order. A gate's level is one more than the greater level of its operands; what no gate defines has level 0.
 /// The greatest variable is the last one, a gate's greater operand comes first, and a variable that nothing defines becomes
-/// constant false. There must be no cycle of gates, no variable that two gates define, no gate's variable above `max`, and
-/// fewer than 2^31 inputs, latches and gates together; each value that was read is so (`good_is_writable`).
+/// constant false. There must be no cycle of gates, no variable that two gates define, and fewer than 2^31 inputs, latches and
+/// gates together; each value that was read is so (`good_is_writable`). Room is taken for what the lists hold and up to the greatest
+/// variable that they define, whatever `max` is.
 pub fn renumber(alloc: Global, aig: &Aig) -> Result<Aig, AllocError>
     requires { IsWritable aig.now }
     ensures { IfOk result (IsRenumbered aig.now) }
 {
-    let ordered = by_level(alloc, aig.max, aig.gates.as_slice())?;
+    let ordered = by_level(alloc, aig.gates.as_slice())?;
     let variables = variables_of(alloc, aig, &ordered)?;
     let numbers = numbers_of(alloc, &variables)?;
     numbered(alloc, &numbers, variables.len() as u32, aig, &ordered)
