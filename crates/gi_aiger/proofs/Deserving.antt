@@ -19,7 +19,7 @@ use Rattle.gi_aiger.proofs.Fitting.{header_within}
 use Rattle.gi_aiger.proofs.Renumbering.{header_fits, sums_to}
 
 -- a line without its LF has none
-bare_is_plain : (l : List ℕ) → IsPlain (bare l)
+pub bare_is_plain : (l : List ℕ) → IsPlain (bare l)
 unfolding bare
 bare_is_plain [] = refl
 bare_is_plain (b ∷ l) = by_test (b == 10) refl (bare_is_plain l) where

@@ -1,7 +1,8 @@
 -- What a file says ends with a value or with a fault, and the gates of the value are those that stand.
-use Rattle.std.proofs.Common.{◌≡◌, ℕ, zero, suc, ◌+◌, List, [], ◌∷◌, Bool, true, false, cond, inl, inr, Option, Some, None, Result, Ok, Err, drop, sym, subst}
+use Rattle.std.proofs.Common.{◌≡◌, ℕ, zero, suc, ◌+◌, List, [], ◌∷◌, Bool, true, false, cond, inl, inr, Option, Some, None, Result, Ok, Err, drop, ap, sym, ◌∙◌, subst}
 use Rattle.std.proofs.lemmas.List.{take-append-drop}
 use Rattle.gi_aiger.specs.declared.aig.Aig.{Aig}
+use Rattle.gi_aiger.specs.declared.aig.AndGate.{AndGate}
 use Rattle.gi_aiger.specs.declared.aig.Symbol.{Symbol}
 use Rattle.gi_aiger.specs.declared.fault.AigCode.{AigCode}
 use Rattle.gi_aiger.specs.declared.fault.AigCode.TheVariants.{Cycle, End}
@@ -16,7 +17,7 @@ use Rattle.gi_aiger.specs.declared.row.Section.TheVariants as sections
 use Rattle.gi_aiger.specs.declared.taken.Taken.{Taken}
 use Rattle.gi_aiger.specs.Answers.{Answer, Tells}
 use Rattle.gi_aiger.specs.Header.{header_of}
-use Rattle.gi_aiger.specs.Levels.{HasLevels}
+use Rattle.gi_aiger.specs.Levels.{HasLevels, ClosesCycle}
 use Rattle.gi_aiger.specs.Lines.{lines_of, bare, joined}
 use Rattle.gi_aiger.specs.Taking.{nothing, add_line}
 use Rattle.gi_aiger.specs.Sections.{left_in, sections_of}
@@ -30,16 +31,16 @@ use Rattle.gi_aiger.proofs.Accepting.{said_read}
 use Rattle.gi_aiger.proofs.Returning.{read_said}
 
 -- the gates of a value are those that stand
-abbrev Stand : Told → Type 0
+abbrev pub Stand : Told → Type 0
 Stand told = (v : Aig) → told.read ≡ Ok v → told.gates ≡ v.gates
 
-whole_stands : (h : Head) (t : Taken) (y : List Symbol) (c : Option (List ℕ)) → Stand (whole h t y c)
+pub whole_stands : (h : Head) (t : Taken) (y : List Symbol) (c : Option (List ℕ)) → Stand (whole h t y c)
 whole_stands h t y c v e = cc
 
-stopped_stands : (t : Taken) (k g : ℕ) (c : AigCode) → Stand (stopped t k g c)
+pub stopped_stands : (t : Taken) (k g : ℕ) (c : AigCode) → Stand (stopped t k g c)
 stopped_stands t k g c v e = absurd cc
 
-symbols_stand : (h : Head) (k : ℕ) (t : Taken) (y : List Symbol) (ls : List (List ℕ)) → Stand (read_symbols h k t y ls)
+pub symbols_stand : (h : Head) (k : ℕ) (t : Taken) (y : List Symbol) (ls : List (List ℕ)) → Stand (read_symbols h k t y ls)
 unfolding read_symbols
 symbols_stand h k t y [] = whole_stands h t y None
 symbols_stand h k t y (l ∷ ls) = by_test (begins_comment l) (λ more. symbols_stand h (k + 1) t more ls) where
@@ -51,7 +52,7 @@ symbols_stand h k t y (l ∷ ls) = by_test (begins_comment l) (λ more. symbols_
   by_test true ih = whole_stands h t y (Some (comment_of (joined (l ∷ ls))))
   by_test false ih = by_result (add_symbol h y (bare l)) ih
 
-gates_stand : (h : Head) (k n : ℕ) (t : Taken) (bytes : List ℕ) → Stand (read_gates h k n t bytes)
+pub gates_stand : (h : Head) (k n : ℕ) (t : Taken) (bytes : List ℕ) → Stand (read_gates h k n t bytes)
 unfolding read_gates
 gates_stand h k zero t bytes = symbols_stand h k t [] (lines_of bytes)
 gates_stand h k (suc n) t bytes = by_first (groups_at bytes) (λ u more. gates_stand h k n u more) where
@@ -72,7 +73,7 @@ gates_stand h k (suc n) t bytes = by_first (groups_at bytes) (λ u more. gates_s
   by_first None ih = λ v q. absurd cc
   by_first (Some p) ih = by_greater (greater_at (own_gate h t) (difference_of p.0)) p.1 ih
 
-section_stands : (h : Head) (s : Section) (next : ℕ → Taken → List (List ℕ) → Told) → ((k : ℕ) (u : Taken) (ls : List (List ℕ)) → Stand (next k u ls)) → (n k : ℕ) (t : Taken) (ls : List (List ℕ)) → Stand (read_section h s n k t ls next)
+pub section_stands : (h : Head) (s : Section) (next : ℕ → Taken → List (List ℕ) → Told) → ((k : ℕ) (u : Taken) (ls : List (List ℕ)) → Stand (next k u ls)) → (n k : ℕ) (t : Taken) (ls : List (List ℕ)) → Stand (read_section h s n k t ls next)
 unfolding read_section
 section_stands h s next nx zero k t ls = nx k t ls
 section_stands h s next nx (suc n) k t [] = stopped_stands t k 0 End
@@ -103,25 +104,40 @@ unfolding read_file
 file_stands bytes = lines_stand (lines_of bytes)
 
 -- what is answered
-levels_of : (v : Aig) (bytes : List ℕ) → IsAig v bytes → HasLevels v.gates
+pub levels_of : (v : Aig) (bytes : List ℕ) → IsAig v bytes → HasLevels v.gates
 levels_of v bytes (inl a) = a.sound.levels
 levels_of v bytes (inr a) = a.sound.levels
 
-pub answer_said : (r : AigRead) (bytes : List ℕ) → Tells r (read_file bytes) → IsSaid r bytes
-answer_said (reads.Aig v) bytes tells = by_answer tells where
+-- a value is answered where it is read of gates without cycles, and so said
+pub value_said : (v : Aig) (bytes : List ℕ) → Answer (read_file bytes) (Ok v) → IsAig v bytes
+value_said v bytes answer = by_answer answer where
   never : (f : AigFault) → ◌≡◌ {A = Result Aig AigFault} (Ok v) (Err f) → ⊥
   never f e = cc
 
   by_answer : Answer (read_file bytes) (Ok v) → IsAig v bytes
   by_answer (inl t) = read_said v bytes (sym t.1) (subst HasLevels (file_stands bytes v (sym t.1)) t.0)
   by_answer (inr t) = absurd (never (record { line = (read_file bytes).first + t.0; gate = 0; code = Cycle }) t.2)
-answer_said (reads.Fault f) bytes tells = by_answer tells where
-  never : (v : Aig) (r : Result Aig AigFault) → Err f ≡ r → r ≡ Ok v → ⊥
-  never v r a b = cc
 
-  by_answer : Answer (read_file bytes) (Err f) → (v : Aig) → IsAig v bytes → ⊥
-  by_answer (inl t) v is = never v (read_file bytes).read t.1 (said_read v bytes is)
-  by_answer (inr t) v is =
-      let levels : HasLevels (read_file bytes).gates = subst HasLevels (sym (file_stands bytes v (said_read v bytes is))) (levels_of v bytes is) in
-      cycles.stay (read_file bytes).gates (drop (t.0 + 1) (read_file bytes).gates) t.0 t.1 (subst HasLevels (sym (take-append-drop (t.0 + 1) (read_file bytes).gates)) levels)
+pub said_answered : (v : Aig) (bytes : List ℕ) → IsAig v bytes → Answer (read_file bytes) (Ok v)
+said_answered v bytes is = let read = said_read v bytes is in inl (subst HasLevels (sym (file_stands bytes v read)) (levels_of v bytes is), sym read)
+
+-- no gate closes a cycle where there is none
+levels_never : (gates : List AndGate) (k : ℕ) → HasLevels gates → ClosesCycle gates k → ⊥
+levels_never gates k levels closes = cycles.stay gates (drop (k + 1) gates) k closes (subst HasLevels (sym (take-append-drop (k + 1) gates)) levels)
+
+cycle_at : Told → ℕ → Result Aig AigFault
+cycle_at told k = Err (record { line = told.first + k; gate = 0; code = Cycle })
+
+pub answer_only : (told : Told) (r s : Result Aig AigFault) → Answer told r → Answer told s → r ≡ s
+unfolding cycle_at
+answer_only told r s (inl t) (inl u) = t.1 ∙ sym u.1
+answer_only told r s (inl t) (inr u) = absurd (levels_never told.gates u.0 t.0 u.1)
+answer_only told r s (inr t) (inl u) = absurd (levels_never told.gates t.0 u.0 t.1)
+answer_only told r s (inr t) (inr u) = t.2 ∙ ap (cycle_at told) (cycles.one told.gates t.0 u.0 t.1 u.1) ∙ sym u.2
+
+pub answer_said : (r : AigRead) (bytes : List ℕ) → Tells r (read_file bytes) → IsSaid r bytes
+answer_said (reads.Aig v) bytes tells = value_said v bytes tells
+answer_said (reads.Fault f) bytes tells = λ v is. never v (answer_only (read_file bytes) (Ok v) (Err f) (said_answered v bytes is) tells) where
+  never : (v : Aig) → ◌≡◌ {A = Result Aig AigFault} (Ok v) (Err f) → ⊥
+  never v e = cc
 answer_said reads.NoMemory bytes tells = tt

@@ -174,15 +174,19 @@ stays a k p h w t y c more f none e ne = by_phase p refl where
 start_clean : (a : Global) → IsClean (start a)
 start_clean a = tt
 
+-- no line is begun behind whole lines
+pub lines_end : (a : Global) (bytes : List ℕ) → (run (start a) (bytes ++ 10 ∷ [])).word ≡ []
+lines_end a bytes =
+    let before = run (start a) bytes in
+    let last : run (start a) (bytes ++ 10 ∷ []) ≡ take_byte before 10 = run-append (start a) bytes (10 ∷ []) ∙ run-cons before 10 [] ∙ run-nil (take_byte before 10) in
+    ap (λ (m : Machine). m.word) last ∙ lf_none before.alloc before.line before.phase before.head before.word before.taken before.symbols before.comment (run_clean (start a) bytes (start_clean a))
+
 pub lines_stand : Global → FaultsStand
 lines_stand a bytes more f e ne =
-    let before = run (start a) bytes in
     let s = run (start a) (bytes ++ 10 ∷ []) in
-    let last : s ≡ take_byte before 10 = run-append (start a) bytes (10 ∷ []) ∙ run-cons before 10 [] ∙ run-nil (take_byte before 10) in
-    let none : s.word ≡ [] = ap (λ (m : Machine). m.word) last ∙ lf_none before.alloc before.line before.phase before.head before.word before.taken before.symbols before.comment (run_clean (start a) bytes (start_clean a)) in
     let now : (answer s).read ≡ Err f = ap (λ (t : Told). t.read) (reads_all a (bytes ++ 10 ∷ [])) ∙ e in
     ap (λ (t : Told). t.read) (sym (reads_all a ((bytes ++ 10 ∷ []) ++ more))) ∙ ap (λ (m : Machine). (answer m).read) (run-append (start a) (bytes ++ 10 ∷ []) more)
-    ∙ stays s.alloc s.line s.phase s.head s.word s.taken s.symbols s.comment more f none now ne
+    ∙ stays s.alloc s.line s.phase s.head s.word s.taken s.symbols s.comment more f (lines_end a bytes) now ne
 
 no_cons : (w : List ℕ) (b : ℕ) (v : List ℕ) → w ≡ [] → w ≡ b ∷ v → ⊥
 no_cons w b v e is = cc

@@ -36,3 +36,6 @@ pub mod Renumbering
 pub mod Returning
 pub mod Ending
 pub mod Deserving
+pub mod Growing
+pub mod Stopping
+pub mod Cutting

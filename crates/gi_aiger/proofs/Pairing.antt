@@ -158,7 +158,7 @@ lesser_ok greater lesser le =
 ok_is : (n m : ℕ) → ◌≡◌ {A = Result ℕ AigCode} (Ok n) (Ok m) → n ≡ m
 ok_is n m e = cc
 
-greater_back : (own : ℕ) (o : Option ℕ) (greater : ℕ) → greater_at own o ≡ Ok greater → (o ≡ Some (own - greater)) × (greater < own)
+pub greater_back : (own : ℕ) (o : Option ℕ) (greater : ℕ) → greater_at own o ≡ Ok greater → (o ≡ Some (own - greater)) × (greater < own)
 greater_back own None greater e = absurd cc
 greater_back own (Some d) greater e = elim (eqb_tells d 0) [
   | inl t ↦ absurd (never (rw t.0 at e))
@@ -173,7 +173,7 @@ greater_back own (Some d) greater e = elim (eqb_tells d 0) [
   positive : own - d ≡ greater → (d ≡ 0 → ⊥) → d ≤ own → (◌≡◌ {A = Option ℕ} (Some d) (Some (own - greater))) × (greater < own)
   positive is ne le = let e : d ≡ own - greater = omega (arith, is, le) in (ap Some e, omega (arith, is, ne, le))
 
-lesser_back : (greater : ℕ) (o : Option ℕ) (lesser : ℕ) → lesser_at greater o ≡ Ok lesser → (o ≡ Some (greater - lesser)) × (lesser ≤ greater)
+pub lesser_back : (greater : ℕ) (o : Option ℕ) (lesser : ℕ) → lesser_at greater o ≡ Ok lesser → (o ≡ Some (greater - lesser)) × (lesser ≤ greater)
 lesser_back greater None lesser e = absurd cc
 lesser_back greater (Some d) lesser e = elim (ltb_tells greater d) [
   | inl t ↦ absurd (never (rw t.0 at e))

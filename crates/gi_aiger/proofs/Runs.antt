@@ -201,7 +201,7 @@ unfolding line_ends
 name_ends a k h t y c x nc = ap (λ (e : Bool). cond e (comment_begins (at a k Naming h x t y c) []) (symbol_ends (add_symbol h y x) (at a k Naming h x t y c))) nc
 
 -- a cut line is no comment as a whole one isn't
-cut_no : (b : ℕ) (x : List ℕ) → begins_comment (b ∷ x) ≡ false → begins_comment ((b ∷ x) ++ 10 ∷ []) ≡ false
+pub cut_no : (b : ℕ) (x : List ℕ) → begins_comment (b ∷ x) ≡ false → begins_comment ((b ∷ x) ++ 10 ∷ []) ≡ false
 cut_no b [] nc = rw nc refl
 cut_no b (d ∷ x) nc = nc
 

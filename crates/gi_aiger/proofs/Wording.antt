@@ -213,7 +213,7 @@ plain_head x l plain = by_test (x == 10) plain where
   by_test true h = absurd cc
   by_test false h = (refl, h)
 
-one_line : (x more : List ℕ) → IsPlain x → lines_of (x ++ 10 ∷ more) ≡ (x ++ 10 ∷ []) ∷ lines_of more
+pub one_line : (x more : List ℕ) → IsPlain x → lines_of (x ++ 10 ∷ more) ≡ (x ++ 10 ∷ []) ∷ lines_of more
 unfolding lines_of
 one_line [] more plain = refl
 one_line (b ∷ x) more plain = let h = plain_head b x plain in rw h.0 (ap (with_byte b) (one_line x more h.1))

@@ -1,5 +1,6 @@
 -- What holds of the format.
-use Rattle.std.specs.Prelude.{◌≡◌, ◌≢◌, ℕ, ◌+◌, ◌<◌, List, [], ◌∷◌, ◌++◌, length, take, Err}
+use Rattle.std.specs.Prelude.{◌≡◌, ◌≢◌, ℕ, ◌+◌, ◌<◌, List, [], ◌∷◌, ◌++◌, length, map, take, Result, Ok, Err}
+use Rattle.gi_aiger.specs.declared.aig.Aig.{Aig}
 use Rattle.gi_aiger.specs.declared.fault.AigCode.TheVariants.{End}
 use Rattle.gi_aiger.specs.declared.fault.AigFault.{AigFault}
 use Rattle.gi_aiger.specs.Files.{read_file}
@@ -8,6 +9,9 @@ use Rattle.gi_aiger.specs.declared.row.Row.{Row}
 use Rattle.gi_aiger.specs.Rows.{defined_variables, IsClosed}
 use Rattle.gi_aiger.specs.Marks.{missing, marks_of}
 use Rattle.gi_aiger.specs.Levels.{HasLevels, ClosesCycle}
+use Rattle.gi_aiger.specs.Answers.{Answer}
+use Rattle.gi_aiger.specs.Lines.{lines_of, bare, text_of}
+use Rattle.gi_aiger.specs.Relation.{IsAscii, IsAig}
 
 -- one gate closes the first cycle
 abbrev pub CycleIsOne : Type 0
@@ -28,3 +32,29 @@ FaultsStand = (bytes more : List ℕ) (f : AigFault) → (read_file (bytes ++ 10
 -- and so is a binary gate's, behind the byte that shows it
 abbrev pub GateFaultsStand : Type 0
 GateFaultsStand = (bytes more : List ℕ) (f : AigFault) → (read_file bytes).read ≡ Err f → f.code ≢ End → f.gate ≢ 0 → (read_file (bytes ++ more)).read ≡ Err f
+
+-- no value has bytes that begin with these
+abbrev pub NoneBegins : List ℕ → Type 0
+NoneBegins front = (v : Aig) (more : List ℕ) → IsAig v (front ++ more) → ⊥
+
+-- whole lines of which a fault is answered, but for an early end, have no continuation to a file
+abbrev pub LinesHelpless : Type 0
+LinesHelpless = (bytes : List ℕ) (f : AigFault) → Answer (read_file (bytes ++ 10 ∷ [])) (Err f) → f.code ≢ End → NoneBegins (bytes ++ 10 ∷ [])
+
+-- and so bytes of which a binary gate's fault is answered
+abbrev pub GatesHelpless : Type 0
+GatesHelpless = (bytes : List ℕ) (f : AigFault) → Answer (read_file bytes) (Err f) → f.code ≢ End → f.gate ≢ 0 → NoneBegins bytes
+
+-- the first lines of bytes, each with its LF
+abbrev pub first_lines : ℕ → List ℕ → List ℕ
+first_lines n bytes = text_of (map bare (take n (lines_of bytes)))
+
+-- where a fault is answered, but for an early end, the lines up to the one that it names begin no file of the ASCII form
+abbrev pub NamedHelpless : Type 0
+NamedHelpless = (bytes : List ℕ) (f : AigFault) → Answer (read_file bytes) (Err f) → f.code ≢ End → (v : Aig) (more : List ℕ) → IsAscii v (first_lines f.line bytes ++ more) → ⊥
+
+-- bytes have at most one answer, and it is a value exactly where they say it
+pub record OneAnswer : Type 0 where
+  pub only : (bytes : List ℕ) (r s : Result Aig AigFault) → Answer (read_file bytes) r → Answer (read_file bytes) s → r ≡ s
+  pub said : (v : Aig) (bytes : List ℕ) → Answer (read_file bytes) (Ok v) → IsAig v bytes
+  pub answered : (v : Aig) (bytes : List ℕ) → IsAig v bytes → Answer (read_file bytes) (Ok v)

@@ -5,35 +5,44 @@ use thiserror::Error;
 /// named.
 #[derive(Clone, Copy, Debug, PartialEq, Eq, Error)]
 pub enum AigCode {
-    /// The first line hasn't the header's form, or its count of variables doesn't fit the inputs, latches and gates.
+    /// The first line isn't `aag` or `aig` and five to nine unsigned numbers, parted by single spaces; or its counts of
+    /// variables, inputs, latches and gates are each at most 4,294,967,295, and that of the variables is below the sum of the
+    /// other three in the ASCII form, or isn't the sum in the binary one.
     #[error("the header is wrong")]
     Header,
-    /// A number of the header, or the sum of the justice sizes, is above 1,048,576.
+    /// A number of the header is above 1,048,576; or this line is the justice size by which the sum of the sizes so far passes
+    /// that.
     #[error("a limit is passed")]
     Limit,
-    /// A line hasn't its number of fields, parted by single spaces, or one of them is no unsigned number.
+    /// A line between the header and the symbols hasn't its number of fields, parted by single spaces, or one of them is no
+    /// unsigned number.
     #[error("a line hasn't its numbers")]
     Count,
-    /// A literal is out of range, a defining one is odd or 0, a reset is neither 0 nor 1 nor the latch itself, or a binary
-    /// difference is spelled longer than need be or is 2^32 or more.
+    /// A literal is above twice the greatest variable and one, a defining one is odd or 0, a reset is neither 0 nor 1 nor the
+    /// latch's own literal; or a binary difference, whose last byte is there, is spelled longer than need be or is 2^32 or more.
     #[error("a literal is wrong")]
     Literal,
-    /// The variable was defined before.
+    /// A line before this one defines the variable that this one defines.
     #[error("a variable is defined twice")]
     Defined,
-    /// More variables are used and not defined than latch and gate lines are still to come.
+    /// After this line more variables are used and not defined than latch and gate lines are still to come. In the ASCII form
+    /// alone: in the binary one each variable up to the greatest is defined.
     #[error("a variable can't be defined any more")]
     Undefined,
-    /// The operands of a binary gate are not in falling order below the gate.
+    /// The differences of a binary gate break that its literal is above its greater operand, that this is not below the lesser
+    /// one, and that none is below 0: the first difference is 0 or above the gate's literal, or the second one is above the
+    /// greater operand.
     #[error("a binary gate's operands are out of order")]
     Order,
-    /// The gate closes a cycle of gates.
+    /// The gate of this line closes a cycle with gates before it, among which there is none. It is named before what is wrong
+    /// with a later line. In the ASCII form alone: a binary gate's operands are below it.
     #[error("a cycle of gates is closed")]
     Cycle,
-    /// A line behind the gates is neither a symbol nor the beginning of the comment.
+    /// A line behind the gates neither begins the comment nor is a symbol: a kind, a place below the count of what is of that
+    /// kind, one space and a name of one byte at least, where no symbol before has the same kind and place.
     #[error("a symbol is wrong")]
     Symbol,
-    /// The input ends before the gates are complete.
+    /// The input ends before the gates are complete, and nothing in it is at fault.
     #[error("the input ends early")]
     End,
 }
