@@ -108,7 +108,7 @@ symbols_later h k t y (l ∷ ls) = by_test (begins_comment l) (λ more. symbols_
   by_test true ih = whole_later h t k y (Some (comment_of (joined (l ∷ ls))))
   by_test false ih = by_result (add_symbol h y (bare l)) ih
 
-gates_later : (h : Head) (k n : ℕ) (t : Taken) (bytes : List ℕ) → Later k t (read_gates h k n t bytes)
+pub gates_later : (h : Head) (k n : ℕ) (t : Taken) (bytes : List ℕ) → Later k t (read_gates h k n t bytes)
 unfolding read_gates
 gates_later h k zero t bytes = symbols_later h k t [] (lines_of bytes)
 gates_later h k (suc n) t bytes = by_first (groups_at bytes) (λ u more. gates_later h k n u more) where
@@ -131,7 +131,7 @@ gates_later h k (suc n) t bytes = by_first (groups_at bytes) (λ u more. gates_l
   by_first None ih = stopped_later t k (length t.gates + 1) End
   by_first (Some p) ih = by_greater (greater_at (own_gate h t) (difference_of p.0)) p.1 ih
 
-section_later : (h : Head) (s : Section) (next : ℕ → Taken → List (List ℕ) → Told) → ((k : ℕ) (u : Taken) (ls : List (List ℕ)) → Later k u (next k u ls)) → (n k : ℕ) (t : Taken) (ls : List (List ℕ)) → Later k t (read_section h s n k t ls next)
+pub section_later : (h : Head) (s : Section) (next : ℕ → Taken → List (List ℕ) → Told) → ((k : ℕ) (u : Taken) (ls : List (List ℕ)) → Later k u (next k u ls)) → (n k : ℕ) (t : Taken) (ls : List (List ℕ)) → Later k t (read_section h s n k t ls next)
 unfolding read_section
 section_later h s next lx zero k t ls = lx k t ls
 section_later h s next lx (suc n) k t [] = stopped_later t k 0 End
@@ -161,21 +161,21 @@ lines_from (l ∷ ls) = by_header (header_of (bare l)) where
 abbrev pub cut : ℕ → List (List ℕ) → List (List ℕ) → List (List ℕ)
 cut n ls tail = map whole_line (take n ls) ++ tail
 
--- a fault of some kind is at none of so many lines
-abbrev pub Behind : (AigFault → Type 0) → ℕ → ℕ → Told → Type 0
-Behind P k n told = (f : AigFault) → P f → told.read ≡ Err f → k + n ≤ f.line
+-- a fault of some kind is at none of so many lines, some of which may not count
+abbrev pub Behind : (Told → AigFault → Type 0) → ℕ → ℕ → ℕ → Told → Type 0
+Behind P x k n told = (f : AigFault) → P told f → told.read ≡ Err f → k + n ≤ f.line + x
 
-later_behind : (P : AigFault → Type 0) (k : ℕ) (t : Taken) (told : Told) → Later k t told → Behind P k 0 told
-later_behind P k t told z = λ f p e. omega (arith, z.line f e)
+pub later_behind : (P : Told → AigFault → Type 0) (x : ℕ) (k : ℕ) (t : Taken) (told : Told) → Later k t told → Behind P x k 0 told
+later_behind P x k t told z = λ f p e. omega (arith, z.line f e)
 
 -- where a value is read of the first lines with others behind them, no fault is at one of them
-symbols_behind : (P : AigFault → Type 0) (h : Head) (tail : List (List ℕ)) (v : Aig) (n k : ℕ) (t : Taken) (y : List Symbol) (ls : List (List ℕ)) → AreLines ls → (read_symbols h k t y (cut n ls tail)).read ≡ Ok v → Behind P k n (read_symbols h k t y ls)
+pub symbols_behind : (P : Told → AigFault → Type 0) (x : ℕ) (h : Head) (tail : List (List ℕ)) (v : Aig) (n k : ℕ) (t : Taken) (y : List Symbol) (ls : List (List ℕ)) → AreLines ls → (read_symbols h k t y (cut n ls tail)).read ≡ Ok v → Behind P x k n (read_symbols h k t y ls)
 unfolding read_symbols
-symbols_behind P h tail v zero k t y ls lines ok = later_behind P k t (read_symbols h k t y ls) (symbols_later h k t y ls)
-symbols_behind P h tail v (suc n) k t y [] lines ok = λ f p e. absurd cc
-symbols_behind P h tail v (suc n) k t y (l ∷ ls) lines ok = by_test (begins_comment l) refl (λ more. symbols_behind P h tail v n (k + 1) t more ls (rest_lines l ls lines)) where
+symbols_behind P x h tail v zero k t y ls lines ok = later_behind P x k t (read_symbols h k t y ls) (symbols_later h k t y ls)
+symbols_behind P x h tail v (suc n) k t y [] lines ok = λ f p e. absurd cc
+symbols_behind P x h tail v (suc n) k t y (l ∷ ls) lines ok = by_test (begins_comment l) refl (λ more. symbols_behind P x h tail v n (k + 1) t more ls (rest_lines l ls lines)) where
   by_result : (r : Result (List Symbol) AigCode) → (then_symbols r t k (λ more. read_symbols h (k + 1) t more (cut n ls tail))).read ≡ Ok v
-      → ((more : List Symbol) → (read_symbols h (k + 1) t more (cut n ls tail)).read ≡ Ok v → Behind P (k + 1) n (read_symbols h (k + 1) t more ls)) → Behind P k (suc n) (then_symbols r t k (λ more. read_symbols h (k + 1) t more ls))
+      → ((more : List Symbol) → (read_symbols h (k + 1) t more (cut n ls tail)).read ≡ Ok v → Behind P x (k + 1) n (read_symbols h (k + 1) t more ls)) → Behind P x k (suc n) (then_symbols r t k (λ more. read_symbols h (k + 1) t more ls))
   by_result (Ok more) ok ih = λ f p e. omega (arith, ih more ok f p e)
   by_result (Err c) ok ih = absurd cc
 
@@ -184,31 +184,31 @@ symbols_behind P h tail v (suc n) k t y (l ∷ ls) lines ok = by_test (begins_co
       ap (λ (x : List ℕ). (then_symbols (add_symbol h y x) t k (λ more. read_symbols h (k + 1) t more (cut n ls tail))).read) (sym (bare_again l))
       ∙ ap (λ (b : Bool). (cond b (whole h t y (Some (comment_of (joined (whole_line l ∷ cut n ls tail))))) (then_symbols (add_symbol h y (bare (whole_line l))) t k (λ more. read_symbols h (k + 1) t more (cut n ls tail)))).read) (sym (no_comment l ls lines nc)) ∙ ok
 
-  by_test : (b : Bool) → begins_comment l ≡ b → ((more : List Symbol) → (read_symbols h (k + 1) t more (cut n ls tail)).read ≡ Ok v → Behind P (k + 1) n (read_symbols h (k + 1) t more ls))
-      → Behind P k (suc n) (cond b (whole h t y (Some (comment_of (joined (l ∷ ls))))) (then_symbols (add_symbol h y (bare l)) t k (λ more. read_symbols h (k + 1) t more ls)))
+  by_test : (b : Bool) → begins_comment l ≡ b → ((more : List Symbol) → (read_symbols h (k + 1) t more (cut n ls tail)).read ≡ Ok v → Behind P x (k + 1) n (read_symbols h (k + 1) t more ls))
+      → Behind P x k (suc n) (cond b (whole h t y (Some (comment_of (joined (l ∷ ls))))) (then_symbols (add_symbol h y (bare l)) t k (λ more. read_symbols h (k + 1) t more ls)))
   by_test true is ih = λ f p e. absurd cc
   by_test false is ih = by_result (add_symbol h y (bare l)) (told is) ih
 
-section_behind : (P : AigFault → Type 0) → ((f : AigFault) → P f → f.code ≢ End) → (h : Head) (s : Section) (next : ℕ → Taken → List (List ℕ) → Told) (tail : List (List ℕ)) (v : Aig) → ((k : ℕ) (u : Taken) (ls : List (List ℕ)) → Later k u (next k u ls))
-    → ((n k : ℕ) (u : Taken) (ls : List (List ℕ)) → AreLines ls → (next k u (cut n ls tail)).read ≡ Ok v → Behind P k n (next k u ls))
-    → (c n k : ℕ) (t : Taken) (ls : List (List ℕ)) → AreLines ls → (read_section h s c k t (cut n ls tail) next).read ≡ Ok v → Behind P k n (read_section h s c k t ls next)
+pub section_behind : (P : Told → AigFault → Type 0) (x : ℕ) → ((told : Told) (f : AigFault) → P told f → f.code ≢ End) → (h : Head) (s : Section) (next : ℕ → Taken → List (List ℕ) → Told) (tail : List (List ℕ)) (v : Aig) → ((k : ℕ) (u : Taken) (ls : List (List ℕ)) → Later k u (next k u ls))
+    → ((n k : ℕ) (u : Taken) (ls : List (List ℕ)) → AreLines ls → (next k u (cut n ls tail)).read ≡ Ok v → Behind P x k n (next k u ls))
+    → (c n k : ℕ) (t : Taken) (ls : List (List ℕ)) → AreLines ls → (read_section h s c k t (cut n ls tail) next).read ≡ Ok v → Behind P x k n (read_section h s c k t ls next)
 unfolding read_section code_of
-section_behind P late h s next tail v lx nx zero n k t ls lines ok = nx n k t ls lines ok
-section_behind P late h s next tail v lx nx (suc c) zero k t ls lines ok = later_behind P k t (read_section h s (suc c) k t ls next) (section_later h s next lx (suc c) k t ls)
-section_behind P late h s next tail v lx nx (suc c) (suc n) k t [] lines ok = λ f p e. absurd (late f p (sym (ap code_of e)))
-section_behind P late h s next tail v lx nx (suc c) (suc n) k t (l ∷ ls) lines ok =
-    by_result (add_line h t s (bare l)) (ap (λ (x : List ℕ). (then_line (add_line h t s x) t k (λ u. read_section h s c (k + 1) u (cut n ls tail) next)).read) (sym (bare_again l)) ∙ ok) (λ u. section_behind P late h s next tail v lx nx c n (k + 1) u ls (rest_lines l ls lines)) where
+section_behind P x late h s next tail v lx nx zero n k t ls lines ok = nx n k t ls lines ok
+section_behind P x late h s next tail v lx nx (suc c) zero k t ls lines ok = later_behind P x k t (read_section h s (suc c) k t ls next) (section_later h s next lx (suc c) k t ls)
+section_behind P x late h s next tail v lx nx (suc c) (suc n) k t [] lines ok = λ f p e. absurd (late (stopped t k 0 End) f p (sym (ap code_of e)))
+section_behind P x late h s next tail v lx nx (suc c) (suc n) k t (l ∷ ls) lines ok =
+    by_result (add_line h t s (bare l)) (ap (λ (x : List ℕ). (then_line (add_line h t s x) t k (λ u. read_section h s c (k + 1) u (cut n ls tail) next)).read) (sym (bare_again l)) ∙ ok) (λ u. section_behind P x late h s next tail v lx nx c n (k + 1) u ls (rest_lines l ls lines)) where
       by_result : (r : Result Taken AigCode) → (then_line r t k (λ u. read_section h s c (k + 1) u (cut n ls tail) next)).read ≡ Ok v
-          → ((u : Taken) → (read_section h s c (k + 1) u (cut n ls tail) next).read ≡ Ok v → Behind P (k + 1) n (read_section h s c (k + 1) u ls next)) → Behind P k (suc n) (then_line r t k (λ u. read_section h s c (k + 1) u ls next))
+          → ((u : Taken) → (read_section h s c (k + 1) u (cut n ls tail) next).read ≡ Ok v → Behind P x (k + 1) n (read_section h s c (k + 1) u ls next)) → Behind P x k (suc n) (then_line r t k (λ u. read_section h s c (k + 1) u ls next))
       by_result (Ok u) ok ih = λ f p e. omega (arith, ih u ok f p e)
       by_result (Err c) ok ih = absurd cc
 
-pub ascii_behind : (P : AigFault → Type 0) → ((f : AigFault) → P f → f.code ≢ End) → (h : Head) (tail : List (List ℕ)) (v : Aig) (ss : List Section) (n k : ℕ) (t : Taken) (ls : List (List ℕ)) → h.form ≡ Ascii → AreLines ls → (read_sections h ss k t (cut n ls tail)).read ≡ Ok v → Behind P k n (read_sections h ss k t ls)
+pub ascii_behind : (P : Told → AigFault → Type 0) (x : ℕ) → ((told : Told) (f : AigFault) → P told f → f.code ≢ End) → (h : Head) (tail : List (List ℕ)) (v : Aig) (ss : List Section) (n k : ℕ) (t : Taken) (ls : List (List ℕ)) → h.form ≡ Ascii → AreLines ls → (read_sections h ss k t (cut n ls tail)).read ≡ Ok v → Behind P x k n (read_sections h ss k t ls)
 unfolding read_sections
-ascii_behind P late h tail v [] n k t ls form lines ok =
-    subst (λ (f : Form). Behind P k n (after_sections f h k t ls)) (sym form) (symbols_behind P h tail v n k t [] ls lines (ap (λ (f : Form). (after_sections f h k t (cut n ls tail)).read) (sym form) ∙ ok))
-ascii_behind P late h tail v (s ∷ ss) n k t ls form lines ok =
-    section_behind P late h s (λ k u more. read_sections h ss k u more) tail v (λ k u more. sections_later h ss k u more) (λ n k u ls lines ok. ascii_behind P late h tail v ss n k u ls form lines ok) (left_in h t s) n k t ls lines ok
+ascii_behind P x late h tail v [] n k t ls form lines ok =
+    subst (λ (f : Form). Behind P x k n (after_sections f h k t ls)) (sym form) (symbols_behind P x h tail v n k t [] ls lines (ap (λ (f : Form). (after_sections f h k t (cut n ls tail)).read) (sym form) ∙ ok))
+ascii_behind P x late h tail v (s ∷ ss) n k t ls form lines ok =
+    section_behind P x late h s (λ k u more. read_sections h ss k u more) tail v (λ k u more. sections_later h ss k u more) (λ n k u ls lines ok. ascii_behind P x late h tail v ss n k u ls form lines ok) (left_in h t s) n k t ls lines ok
 
 -- and the value has the gates that are named at them
 abbrev pub Has : List AndGate → ℕ → ℕ → Told → Type 0

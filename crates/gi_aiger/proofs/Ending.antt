@@ -122,7 +122,7 @@ pub said_answered : (v : Aig) (bytes : List ℕ) → IsAig v bytes → Answer (r
 said_answered v bytes is = let read = said_read v bytes is in inl (subst HasLevels (sym (file_stands bytes v read)) (levels_of v bytes is), sym read)
 
 -- no gate closes a cycle where there is none
-levels_never : (gates : List AndGate) (k : ℕ) → HasLevels gates → ClosesCycle gates k → ⊥
+pub levels_never : (gates : List AndGate) (k : ℕ) → HasLevels gates → ClosesCycle gates k → ⊥
 levels_never gates k levels closes = cycles.stay gates (drop (k + 1) gates) k closes (subst HasLevels (sym (take-append-drop (k + 1) gates)) levels)
 
 cycle_at : Told → ℕ → Result Aig AigFault

@@ -39,3 +39,5 @@ pub mod Deserving
 pub mod Growing
 pub mod Stopping
 pub mod Cutting
+pub mod Falling
+pub mod Feeding

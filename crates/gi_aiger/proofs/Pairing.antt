@@ -8,6 +8,7 @@ use Rattle.gi_aiger.specs.declared.aig.Aig.{Aig}
 use Rattle.gi_aiger.specs.declared.aig.AndGate.{AndGate}
 use Rattle.gi_aiger.specs.declared.fault.AigCode.{AigCode}
 use Rattle.gi_aiger.specs.declared.fault.AigCode.TheVariants.{End, Order}
+use Rattle.gi_aiger.specs.declared.fault.AigFault.{AigFault}
 use Rattle.gi_aiger.specs.declared.head.Form.TheVariants.{Binary}
 use Rattle.gi_aiger.specs.declared.head.Head.{Head}
 use Rattle.gi_aiger.specs.declared.row.Row.TheVariants as rows
@@ -218,8 +219,8 @@ gates_there h P k rest t (g ∷ gs) bytes are owns small p =
     let one : read_gates h k (suc (length gs)) t (bytes ++ rest) ≡ read_gates h k (length gs) (with_row t (rows.Gate g)) (are.1 ++ rest) = ap (read_gates h k (suc (length gs)) t) all ∙ gate_there h k (length gs) t g are.0 (are.1 ++ rest) are.3 owns.0 small.0 in
     subst P (sym one) (gates_there h P k rest (with_row t (rows.Gate g)) gs are.1 are.4 owns.1 small.1 p)
 
--- and back
-pub record Paired (h : Head) (v : Aig) (k n : ℕ) (t : Taken) (bytes : List ℕ) : Type 0 where
+-- and back: what is read behind all gates is no gate's fault
+pub record Paired (h : Head) (v : Result Aig AigFault) (k n : ℕ) (t : Taken) (bytes : List ℕ) : Type 0 where
   pub gates : List AndGate
   pub front : List ℕ
   pub rest : List ℕ
@@ -227,12 +228,12 @@ pub record Paired (h : Head) (v : Aig) (k n : ℕ) (t : Taken) (bytes : List ℕ
   pub are : AreGates gates front
   pub owns : Owns h t gates
   pub count : length gates ≡ n
-  pub read : (read_symbols h k (takes Binary t (map rows.Gate gates)) [] (lines_of rest)).read ≡ Ok v
+  pub read : (read_symbols h k (takes Binary t (map rows.Gate gates)) [] (lines_of rest)).read ≡ v
 
-pub gates_back : (h : Head) (v : Aig) (k n : ℕ) (t : Taken) (bytes : List ℕ) → (read_gates h k n t bytes).read ≡ Ok v → Paired h v k n t bytes
+pub gates_through : (h : Head) (v : Result Aig AigFault) → ((t : Taken) (k : ℕ) (c : AigCode) → (gate_stopped t k c).read ≡ v → ⊥) → (k n : ℕ) (t : Taken) (bytes : List ℕ) → (read_gates h k n t bytes).read ≡ v → Paired h v k n t bytes
 unfolding read_gates
-gates_back h v k zero t bytes e = record { gates = []; front = []; rest = bytes; split = refl; are = refl; owns = tt; count = refl; read = e }
-gates_back h v k (suc n) t bytes e = by_first (groups_at bytes) refl (λ u more q. gates_back h v k n u more q) e where
+gates_through h v never k zero t bytes e = record { gates = []; front = []; rest = bytes; split = refl; are = refl; owns = tt; count = refl; read = e }
+gates_through h v never k (suc n) t bytes e = by_first (groups_at bytes) refl (λ u more q. gates_through h v never k n u more q) e where
   one_more : (a b c d : List ℕ) (x y : ℕ) → Cut bytes (a, b) → Cut b (c, d) → greater_at (own_gate h t) (difference_of a) ≡ Ok x → lesser_at x (difference_of c) ≡ Ok y → Paired h v k n (with_gate t (own_gate h t) x y) d → Paired h v k (suc n) t bytes
   one_more a b c d x y ab cd ex ey w =
       let g = greater_back (own_gate h t) (difference_of a) x ex in
@@ -248,22 +249,27 @@ gates_back h v k (suc n) t bytes e = by_first (groups_at bytes) refl (λ u more 
         read = w.read;
       }
 
-  by_lesser : (a b c d : List ℕ) (x : ℕ) (r : Result ℕ AigCode) → Cut bytes (a, b) → Cut b (c, d) → greater_at (own_gate h t) (difference_of a) ≡ Ok x → lesser_at x (difference_of c) ≡ r → ((u : Taken) (more : List ℕ) → (read_gates h k n u more).read ≡ Ok v → Paired h v k n u more)
-      → (then_edge r (gate_stopped t k) (λ l. read_gates h k n (with_gate t (own_gate h t) x l) d)).read ≡ Ok v → Paired h v k (suc n) t bytes
+  by_lesser : (a b c d : List ℕ) (x : ℕ) (r : Result ℕ AigCode) → Cut bytes (a, b) → Cut b (c, d) → greater_at (own_gate h t) (difference_of a) ≡ Ok x → lesser_at x (difference_of c) ≡ r → ((u : Taken) (more : List ℕ) → (read_gates h k n u more).read ≡ v → Paired h v k n u more)
+      → (then_edge r (gate_stopped t k) (λ l. read_gates h k n (with_gate t (own_gate h t) x l) d)).read ≡ v → Paired h v k (suc n) t bytes
   by_lesser a b c d x (Ok y) ab cd ex ey ih e = one_more a b c d x y ab cd ex ey (ih (with_gate t (own_gate h t) x y) d e)
-  by_lesser a b c d x (Err z) ab cd ex ey ih e = absurd cc
+  by_lesser a b c d x (Err z) ab cd ex ey ih e = absurd (never t k z e)
 
-  by_second : (a b : List ℕ) (x : ℕ) (o : Option Pair) → Cut bytes (a, b) → groups_at b ≡ o → greater_at (own_gate h t) (difference_of a) ≡ Ok x → ((u : Taken) (more : List ℕ) → (read_gates h k n u more).read ≡ Ok v → Paired h v k n u more)
-      → (then_groups o (gate_stopped t k End) (λ second more. then_edge (lesser_at x (difference_of second)) (gate_stopped t k) (λ l. read_gates h k n (with_gate t (own_gate h t) x l) more))).read ≡ Ok v → Paired h v k (suc n) t bytes
-  by_second a b x None ab eo ex ih e = absurd cc
+  by_second : (a b : List ℕ) (x : ℕ) (o : Option Pair) → Cut bytes (a, b) → groups_at b ≡ o → greater_at (own_gate h t) (difference_of a) ≡ Ok x → ((u : Taken) (more : List ℕ) → (read_gates h k n u more).read ≡ v → Paired h v k n u more)
+      → (then_groups o (gate_stopped t k End) (λ second more. then_edge (lesser_at x (difference_of second)) (gate_stopped t k) (λ l. read_gates h k n (with_gate t (own_gate h t) x l) more))).read ≡ v → Paired h v k (suc n) t bytes
+  by_second a b x None ab eo ex ih e = absurd (never t k End e)
   by_second a b x (Some p) ab eo ex ih e = by_lesser a b p.0 p.1 x (lesser_at x (difference_of p.0)) ab (groups_back b p eo) ex refl ih e
 
-  by_greater : (a b : List ℕ) (r : Result ℕ AigCode) → Cut bytes (a, b) → greater_at (own_gate h t) (difference_of a) ≡ r → ((u : Taken) (more : List ℕ) → (read_gates h k n u more).read ≡ Ok v → Paired h v k n u more)
-      → (then_edge r (gate_stopped t k) (λ e. then_groups (groups_at b) (gate_stopped t k End) (λ second more. then_edge (lesser_at e (difference_of second)) (gate_stopped t k) (λ l. read_gates h k n (with_gate t (own_gate h t) e l) more)))).read ≡ Ok v → Paired h v k (suc n) t bytes
+  by_greater : (a b : List ℕ) (r : Result ℕ AigCode) → Cut bytes (a, b) → greater_at (own_gate h t) (difference_of a) ≡ r → ((u : Taken) (more : List ℕ) → (read_gates h k n u more).read ≡ v → Paired h v k n u more)
+      → (then_edge r (gate_stopped t k) (λ e. then_groups (groups_at b) (gate_stopped t k End) (λ second more. then_edge (lesser_at e (difference_of second)) (gate_stopped t k) (λ l. read_gates h k n (with_gate t (own_gate h t) e l) more)))).read ≡ v → Paired h v k (suc n) t bytes
   by_greater a b (Ok x) ab ex ih e = by_second a b x (groups_at b) ab refl ex ih e
-  by_greater a b (Err z) ab ex ih e = absurd cc
+  by_greater a b (Err z) ab ex ih e = absurd (never t k z e)
 
-  by_first : (o : Option Pair) → groups_at bytes ≡ o → ((u : Taken) (more : List ℕ) → (read_gates h k n u more).read ≡ Ok v → Paired h v k n u more)
-      → (then_groups o (gate_stopped t k End) (λ first rest. then_edge (greater_at (own_gate h t) (difference_of first)) (gate_stopped t k) (λ e. then_groups (groups_at rest) (gate_stopped t k End) (λ second more. then_edge (lesser_at e (difference_of second)) (gate_stopped t k) (λ l. read_gates h k n (with_gate t (own_gate h t) e l) more))))).read ≡ Ok v → Paired h v k (suc n) t bytes
-  by_first None eo ih e = absurd cc
+  by_first : (o : Option Pair) → groups_at bytes ≡ o → ((u : Taken) (more : List ℕ) → (read_gates h k n u more).read ≡ v → Paired h v k n u more)
+      → (then_groups o (gate_stopped t k End) (λ first rest. then_edge (greater_at (own_gate h t) (difference_of first)) (gate_stopped t k) (λ e. then_groups (groups_at rest) (gate_stopped t k End) (λ second more. then_edge (lesser_at e (difference_of second)) (gate_stopped t k) (λ l. read_gates h k n (with_gate t (own_gate h t) e l) more))))).read ≡ v → Paired h v k (suc n) t bytes
+  by_first None eo ih e = absurd (never t k End e)
   by_first (Some p) eo ih e = by_greater p.0 p.1 (greater_at (own_gate h t) (difference_of p.0)) (groups_back bytes p eo) refl ih e
+
+pub gates_back : (h : Head) (v : Aig) (k n : ℕ) (t : Taken) (bytes : List ℕ) → (read_gates h k n t bytes).read ≡ Ok v → Paired h (Ok v) k n t bytes
+gates_back h v k n t bytes e = gates_through h (Ok v) never k n t bytes e where
+  never : (t : Taken) (k : ℕ) (c : AigCode) → (gate_stopped t k c).read ≡ Ok v → ⊥
+  never t k c e = absurd cc

@@ -1,5 +1,5 @@
 -- What holds of the format.
-use Rattle.std.specs.Prelude.{◌≡◌, ◌≢◌, ℕ, ◌+◌, ◌<◌, List, [], ◌∷◌, ◌++◌, length, map, take, Result, Ok, Err}
+use Rattle.std.specs.Prelude.{◌≡◌, ◌≢◌, ℕ, ◌+◌, ◌<◌, ◌==◌, List, [], ◌∷◌, ◌++◌, length, map, filter, take, Result, Ok, Err}
 use Rattle.gi_aiger.specs.declared.aig.Aig.{Aig}
 use Rattle.gi_aiger.specs.declared.fault.AigCode.TheVariants.{End}
 use Rattle.gi_aiger.specs.declared.fault.AigFault.{AigFault}
@@ -11,7 +11,8 @@ use Rattle.gi_aiger.specs.Marks.{missing, marks_of}
 use Rattle.gi_aiger.specs.Levels.{HasLevels, ClosesCycle}
 use Rattle.gi_aiger.specs.Answers.{Answer}
 use Rattle.gi_aiger.specs.Lines.{lines_of, bare, text_of}
-use Rattle.gi_aiger.specs.Relation.{IsAscii, IsAig}
+use Rattle.gi_aiger.specs.Deltas.{AreGates}
+use Rattle.gi_aiger.specs.Relation.{IsAscii, IsBinary, IsAig}
 
 -- one gate closes the first cycle
 abbrev pub CycleIsOne : Type 0
@@ -50,8 +51,16 @@ abbrev pub first_lines : ℕ → List ℕ → List ℕ
 first_lines n bytes = text_of (map bare (take n (lines_of bytes)))
 
 -- where a fault is answered, but for an early end, the lines up to the one that it names begin no file of the ASCII form
-abbrev pub NamedHelpless : Type 0
-NamedHelpless = (bytes : List ℕ) (f : AigFault) → Answer (read_file bytes) (Err f) → f.code ≢ End → (v : Aig) (more : List ℕ) → IsAscii v (first_lines f.line bytes ++ more) → ⊥
+abbrev pub AsciiHelpless : Type 0
+AsciiHelpless = (bytes : List ℕ) (f : AigFault) → Answer (read_file bytes) (Err f) → f.code ≢ End → (v : Aig) (more : List ℕ) → IsAscii v (first_lines f.line bytes ++ more) → ⊥
+
+-- how many of these bytes are an LF
+abbrev pub line_feeds : List ℕ → ℕ
+line_feeds bytes = length (filter (λ b. b == 10) bytes)
+
+-- and none of the binary form; there an LF among the bytes of gates ends no line
+abbrev pub BinaryHelpless : Type 0
+BinaryHelpless = (bytes gates : List ℕ) (f : AigFault) → Answer (read_file bytes) (Err f) → f.code ≢ End → f.gate ≡ 0 → AreGates (read_file bytes).gates gates → (v : Aig) (more : List ℕ) → IsBinary v (first_lines (f.line + line_feeds gates) bytes ++ more) → ⊥
 
 -- bytes have at most one answer, and it is a value exactly where they say it
 pub record OneAnswer : Type 0 where

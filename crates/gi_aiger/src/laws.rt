@@ -1,5 +1,5 @@
 // Laws of the format.
-ghost use Rattle.gi_aiger.specs.Laws.{CycleIsOne, CyclesStay, FaultsStand, GateFaultsStand, GatesHelpless, LinesHelpless, NamedHelpless, OneAnswer, UndefinedIsHopeless};
+ghost use Rattle.gi_aiger.specs.Laws.{AsciiHelpless, BinaryHelpless, CycleIsOne, CyclesStay, FaultsStand, GateFaultsStand, GatesHelpless, LinesHelpless, OneAnswer, UndefinedIsHopeless};
 ghost use Rattle.gi_aiger.specs.Saying.{ReadIsSaid, SaidIsGood, SaidIsRead, WrittenAgain, WrittenIsRead, WrittenIsSaid};
 
 use std::alloc::Global;
@@ -23,12 +23,13 @@ pub fn faults_stand(_alloc: Global)
 {}
 
 /// Where a fault other than an early end is answered, a cycle of gates too, no continuation helps: no value has bytes that begin
-/// with these, if they are whole lines, or if the fault is a binary gate's; nor bytes that begin with the lines up to the one
-/// that the fault names, each with its LF. Among lines behind binary gates the first of these three has it.
+/// with these, if they are whole lines, or if the fault is a binary gate's. Nor has a value bytes that begin with the lines up
+/// to the one that the fault names, each with its LF; in the binary form an LF among the bytes of gates ends no line.
 pub fn no_continuation_helps(_alloc: Global)
     ensures lines { LinesHelpless }
     ensures gates { GatesHelpless }
-    ensures named { NamedHelpless }
+    ensures ascii { AsciiHelpless }
+    ensures binary { BinaryHelpless }
 {}
 
 /// All bytes have at most one answer, and it is a value exactly where they say it.
