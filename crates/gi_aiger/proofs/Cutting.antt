@@ -214,7 +214,7 @@ ascii_behind P x late h tail v (s ∷ ss) n k t ls form lines ok =
 abbrev pub Has : List AndGate → ℕ → ℕ → Told → Type 0
 Has gates k n told = (j : ℕ) → j < length told.gates → told.first + j < k + n → Grown (take (j + 1) told.gates) gates
 
-take_front : (n : ℕ) (xs ys : List AndGate) → n ≤ length xs → take n (xs ++ ys) ≡ take n xs
+pub take_front : (n : ℕ) (xs ys : List AndGate) → n ≤ length xs → take n (xs ++ ys) ≡ take n xs
 take_front zero xs ys le = refl
 take_front (suc n) [] ys le = absurd (omega (arith, le))
 take_front (suc n) (x ∷ xs) ys le = ap (λ (gs : List AndGate). x ∷ gs) (take_front n xs ys (omega (arith, le)))

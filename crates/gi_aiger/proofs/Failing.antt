@@ -154,22 +154,23 @@ unfolding run take_byte
 failed_any a k g c h w t y cm [] = refl
 failed_any a k g c h w t y cm (x ∷ more) = failed_any a k g c h w t y cm more
 
-stays : (a : Global) (k : ℕ) (p : Phase) (h : Head) (w : List ℕ) (t : Taken) (y : List Symbol) (c more : List ℕ) (f : AigFault) → w ≡ [] → (answer (at a k p h w t y c)).read ≡ Err f → f.code ≢ End → (answer (run (at a k p h w t y c) more)).read ≡ Err f
-stays a k p h w t y c more f none e ne = by_phase p refl where
+-- behind a fault the answer stands
+told_stays : (a : Global) (k : ℕ) (p : Phase) (h : Head) (w : List ℕ) (t : Taken) (y : List Symbol) (c more : List ℕ) (f : AigFault) → w ≡ [] → (answer (at a k p h w t y c)).read ≡ Err f → f.code ≢ End → answer (run (at a k p h w t y c) more) ≡ answer (at a k p h w t y c)
+told_stays a k p h w t y c more f none e ne = by_phase p refl where
   now : (answer_of p (at a k p h w t y c)).read ≡ Err f
   now = ap (λ (t : Told). t.read) (sym (last_is (at a k p h w t y c) none)) ∙ e
 
-  live : is_failed p ≡ false → (answer (run (at a k p h w t y c) more)).read ≡ Err f
+  live : is_failed p ≡ false → answer (run (at a k p h w t y c) more) ≡ answer (at a k p h w t y c)
   live l = absurd (ne (live_end p (at a k p h w t y c) f l now))
 
-  by_phase : (q : Phase) → p ≡ q → (answer (run (at a k p h w t y c) more)).read ≡ Err f
+  by_phase : (q : Phase) → p ≡ q → answer (run (at a k p h w t y c) more) ≡ answer (at a k p h w t y c)
   by_phase Heading is = live (ap is_failed is)
   by_phase (Rows s) is = live (ap is_failed is)
   by_phase (Gates g) is = live (ap is_failed is)
   by_phase Naming is = live (ap is_failed is)
   by_phase Comment is = live (ap is_failed is)
   by_phase (Failed g d) is =
-      ap (λ (q : Phase). (answer (run (at a k q h w t y c) more)).read) is ∙ ap (λ (s : Machine). (answer s).read) (failed_any a k g d h w t y c more) ∙ ap (λ (q : Phase). (answer (at a k q h w t y c)).read) (sym is) ∙ e
+      ap (λ (q : Phase). answer (run (at a k q h w t y c) more)) is ∙ ap answer (failed_any a k g d h w t y c more) ∙ ap (λ (q : Phase). answer (at a k q h w t y c)) (sym is)
 
 start_clean : (a : Global) → IsClean (start a)
 start_clean a = tt
@@ -181,12 +182,15 @@ lines_end a bytes =
     let last : run (start a) (bytes ++ 10 ∷ []) ≡ take_byte before 10 = run-append (start a) bytes (10 ∷ []) ∙ run-cons before 10 [] ∙ run-nil (take_byte before 10) in
     ap (λ (m : Machine). m.word) last ∙ lf_none before.alloc before.line before.phase before.head before.word before.taken before.symbols before.comment (run_clean (start a) bytes (start_clean a))
 
-pub lines_stand : Global → FaultsStand
-lines_stand a bytes more f e ne =
+-- so whole lines of which a fault is read say the same, whatever comes behind them
+pub lines_same : (a : Global) (bytes more : List ℕ) (f : AigFault) → (read_file (bytes ++ 10 ∷ [])).read ≡ Err f → f.code ≢ End → read_file ((bytes ++ 10 ∷ []) ++ more) ≡ read_file (bytes ++ 10 ∷ [])
+lines_same a bytes more f e ne =
     let s = run (start a) (bytes ++ 10 ∷ []) in
     let now : (answer s).read ≡ Err f = ap (λ (t : Told). t.read) (reads_all a (bytes ++ 10 ∷ [])) ∙ e in
-    ap (λ (t : Told). t.read) (sym (reads_all a ((bytes ++ 10 ∷ []) ++ more))) ∙ ap (λ (m : Machine). (answer m).read) (run-append (start a) (bytes ++ 10 ∷ []) more)
-    ∙ stays s.alloc s.line s.phase s.head s.word s.taken s.symbols s.comment more f (lines_end a bytes) now ne
+    sym (reads_all a ((bytes ++ 10 ∷ []) ++ more)) ∙ ap answer (run-append (start a) (bytes ++ 10 ∷ []) more) ∙ told_stays s.alloc s.line s.phase s.head s.word s.taken s.symbols s.comment more f (lines_end a bytes) now ne ∙ reads_all a (bytes ++ 10 ∷ [])
+
+pub lines_stand : Global → FaultsStand
+lines_stand a bytes more f e ne = ap (λ (t : Told). t.read) (lines_same a bytes more f e ne) ∙ e
 
 no_cons : (w : List ℕ) (b : ℕ) (v : List ℕ) → w ≡ [] → w ≡ b ∷ v → ⊥
 no_cons w b v e is = cc
@@ -235,14 +239,17 @@ line_gate a k Naming h w t y c b v f clean is e ne = by_c (is_c w) e where
 line_gate a k Comment h w t y c b v f clean is e ne = absurd (no_cons w b v clean is)
 line_gate a k (Failed g d) h w t y c b v f clean is e ne = absurd (no_cons w b v clean is)
 
-pub gates_stand : Global → GateFaultsStand
-gates_stand a bytes more f e ne gate = by_word (run (start a) bytes).word refl where
-  by_word : (w : List ℕ) → (run (start a) bytes).word ≡ w → (read_file (bytes ++ more)).read ≡ Err f
+pub gates_same : (a : Global) (bytes more : List ℕ) (f : AigFault) → (read_file bytes).read ≡ Err f → f.code ≢ End → f.gate ≢ 0 → read_file (bytes ++ more) ≡ read_file bytes
+gates_same a bytes more f e ne gate = by_word (run (start a) bytes).word refl where
+  by_word : (w : List ℕ) → (run (start a) bytes).word ≡ w → read_file (bytes ++ more) ≡ read_file bytes
   by_word [] is =
       let m = run (start a) bytes in
       let now : (answer m).read ≡ Err f = ap (λ (t : Told). t.read) (reads_all a bytes) ∙ e in
-      ap (λ (t : Told). t.read) (sym (reads_all a (bytes ++ more))) ∙ ap (λ (u : Machine). (answer u).read) (run-append (start a) bytes more) ∙ stays m.alloc m.line m.phase m.head m.word m.taken m.symbols m.comment more f is now ne
+      sym (reads_all a (bytes ++ more)) ∙ ap answer (run-append (start a) bytes more) ∙ told_stays m.alloc m.line m.phase m.head m.word m.taken m.symbols m.comment more f is now ne ∙ reads_all a bytes
   by_word (b ∷ v) is =
       let m = run (start a) bytes in
       let now : (answer_now (line_ends m)).read ≡ Err f = ap (λ (t : Told). t.read) (sym (last_begun m b v is) ∙ reads_all a bytes) ∙ e in
       absurd (gate (line_gate m.alloc m.line m.phase m.head m.word m.taken m.symbols m.comment b v f (run_clean (start a) bytes (start_clean a)) is now ne))
+
+pub gates_stand : Global → GateFaultsStand
+gates_stand a bytes more f e ne gate = ap (λ (t : Told). t.read) (gates_same a bytes more f e ne gate) ∙ e

@@ -71,7 +71,7 @@ gates_fall h k (suc n) t bytes all = by_first (groups_at bytes) (λ u more all. 
   by_first (Some p) ih = by_greater (greater_at (own_gate h t) (difference_of p.0)) p.1 (difference_of p.0) refl ih
 
 -- lines that are no gates leave the gates
-pub is_gate : Section → Bool
+unfoldable pub is_gate : Section → Bool
 is_gate sections.Input = false
 is_gate sections.Latch = false
 is_gate sections.Out = false
@@ -94,7 +94,7 @@ row_same t (rows.Justice l) plain = refl
 row_same t (rows.Fair l) plain = refl
 row_same t (rows.Gate g) plain = absurd cc
 
-line_same : (h : Head) (t u : Taken) (s : Section) (line : List ℕ) → is_gate s ≡ false → add_line h t s line ≡ Ok u → u.gates ≡ t.gates
+pub line_same : (h : Head) (t u : Taken) (s : Section) (line : List ℕ) → is_gate s ≡ false → add_line h t s line ≡ Ok u → u.gates ≡ t.gates
 line_same h t u s line plain e =
     let a = adds h t u s line e in
     let r = added_is h t u a.row a.added in

@@ -61,7 +61,7 @@ line_grown h t u s line e =
     subst (λ (v : Taken). Grown t.gates v.gates) (sym r.is) (row_grown (record t { marks = r.marks }) a.row)
 
 -- before the header there are no gates
-abbrev Opens : Phase → List AndGate → Type 0
+abbrev pub Opens : Phase → List AndGate → Type 0
 Opens Heading gs = gs ≡ []
 Opens (Rows s) gs = Unit {0}
 Opens (Gates g) gs = Unit {0}
@@ -69,7 +69,7 @@ Opens Naming gs = Unit {0}
 Opens Comment gs = Unit {0}
 Opens (Failed g c) gs = Unit {0}
 
-abbrev IsOpen : Machine → Type 0
+abbrev pub IsOpen : Machine → Type 0
 IsOpen s = Opens s.phase s.taken.gates
 
 gates_open : (h : Head) (t : Taken) (gs : List AndGate) → Opens (gates_or_names h t) gs
@@ -89,7 +89,7 @@ from_open h t ss gs = by_found (first_left h t ss) where
   by_found None = by_form h.form
 
 -- a machine that goes on from gates
-abbrev Goes : List AndGate → Machine → Type 0
+abbrev pub Goes : List AndGate → Machine → Type 0
 Goes gs s = IsOpen s × Grown gs s.taken.gates
 
 from_none : (gs hs : List AndGate) → gs ≡ [] → Grown gs hs
@@ -122,7 +122,7 @@ difference_goes None groups s = greater_goes (greater_at (own_gate s.head s.take
 difference_goes (Some e) groups s = lesser_goes (lesser_at e (difference_of groups)) s e
 
 -- where a line ends
-line_goes : (a : Global) (k : ℕ) (p : Phase) (h : Head) (w : List ℕ) (t : Taken) (y : List Symbol) (c : List ℕ) → Opens p t.gates → Goes t.gates (line_by_phase p (at a k p h w t y c))
+pub line_goes : (a : Global) (k : ℕ) (p : Phase) (h : Head) (w : List ℕ) (t : Taken) (y : List Symbol) (c : List ℕ) → Opens p t.gates → Goes t.gates (line_by_phase p (at a k p h w t y c))
 line_goes a k Heading h w t y c o = head_goes (header_of w) (at a k Heading h w t y c) o
 line_goes a k (Rows s) h w t y c o = row_goes s (at a k (Rows s) h w t y c) (add_line h t s w) refl
 line_goes a k (Gates g) h w t y c o = (tt, stays t.gates)
@@ -134,7 +134,7 @@ line_goes a k Comment h w t y c o = (tt, stays t.gates)
 line_goes a k (Failed g d) h w t y c o = (tt, stays t.gates)
 
 -- and at each byte
-byte_goes : (a : Global) (k : ℕ) (p : Phase) (h : Head) (w : List ℕ) (t : Taken) (y : List Symbol) (c : List ℕ) (b : ℕ) → Opens p t.gates → Goes t.gates (take_byte (at a k p h w t y c) b)
+pub byte_goes : (a : Global) (k : ℕ) (p : Phase) (h : Head) (w : List ℕ) (t : Taken) (y : List Symbol) (c : List ℕ) (b : ℕ) → Opens p t.gates → Goes t.gates (take_byte (at a k p h w t y c) b)
 unfolding take_byte line_ends
 byte_goes a k Heading h w t y c b o = by_test (b == 10) where
   by_test : (e : Bool) → Goes t.gates (cond e (line_by_phase Heading (at a k Heading h w t y c)) (at a k Heading h (w ++ b ∷ []) t y c))
@@ -159,7 +159,7 @@ byte_goes a k Naming h w t y c b o = by_lenient (is_lenient w b) where
 byte_goes a k Comment h w t y c b o = (tt, stays t.gates)
 byte_goes a k (Failed g d) h w t y c b o = (tt, stays t.gates)
 
-run_goes : (s : Machine) (bytes : List ℕ) → IsOpen s → Goes s.taken.gates (run s bytes)
+pub run_goes : (s : Machine) (bytes : List ℕ) → IsOpen s → Goes s.taken.gates (run s bytes)
 run_goes s [] o = subst (Goes s.taken.gates) (sym (run-nil s)) (o, stays s.taken.gates)
 run_goes s (b ∷ bs) o =
     let u = take_byte s b in
@@ -168,7 +168,7 @@ run_goes s (b ∷ bs) o =
     subst (Goes s.taken.gates) (sym (run-cons s b bs)) (all.0, grown_then s.taken.gates u.taken.gates (run u bs).taken.gates one.1 all.1)
 
 -- the gates of an answer are those that stand
-told_gates : (p : Phase) (s : Machine) → (answer_of p s).gates ≡ s.taken.gates
+pub told_gates : (p : Phase) (s : Machine) → (answer_of p s).gates ≡ s.taken.gates
 told_gates Heading s = refl
 told_gates (Rows section) s = refl
 told_gates (Gates g) s = refl

@@ -41,3 +41,4 @@ pub mod Stopping
 pub mod Cutting
 pub mod Falling
 pub mod Feeding
+pub mod Settling

@@ -1,10 +1,10 @@
 -- Where a fault is answered, no continuation helps.
-use Rattle.std.proofs.Common.{◌≡◌, ◌≢◌, ℕ, zero, suc, ◌+◌, ◌≤◌, List, [], ◌∷◌, ◌++◌, true, inl, inr, Result, Ok, Err, take, refl, ap, sym, ◌∙◌, subst, arith}
+use Rattle.std.proofs.Common.{◌≡◌, ◌≢◌, ℕ, zero, suc, ◌+◌, ◌≤◌, List, [], ◌∷◌, ◌++◌, length, ◌<◌, ◌⊎◌, true, inl, inr, Result, Ok, Err, take, refl, ap, sym, ◌∙◌, subst, arith, length-append}
 use Rattle.std.specs.Global.{Global}
 use Rattle.gi_aiger.specs.declared.aig.Aig.{Aig}
 use Rattle.gi_aiger.specs.declared.aig.AndGate.{AndGate}
 use Rattle.gi_aiger.specs.declared.fault.AigCode.{AigCode}
-use Rattle.gi_aiger.specs.declared.fault.AigCode.TheVariants.{End}
+use Rattle.gi_aiger.specs.declared.fault.AigCode.TheVariants.{Cycle, End}
 use Rattle.gi_aiger.specs.declared.fault.AigFault.{AigFault}
 use Rattle.gi_aiger.specs.declared.head.Form.TheVariants.{Ascii, Binary}
 use Rattle.gi_aiger.specs.declared.head.Head.{Head}
@@ -12,50 +12,74 @@ use Rattle.gi_aiger.specs.Answers.{Answer}
 use Rattle.gi_aiger.specs.Files.{Told, begin, read_sections, after_header, read_lines, read_file}
 use Rattle.gi_aiger.specs.Deltas.{AreGates}
 use Rattle.gi_aiger.specs.Header.{header_of, is_within}
-use Rattle.gi_aiger.specs.Laws.{LinesHelpless, GatesHelpless, AsciiHelpless, BinaryHelpless, OneAnswer, first_lines, line_feeds}
+use Rattle.gi_aiger.specs.Laws.{LinesLast, GatesLast, LinesHelpless, GatesHelpless, AsciiHelpless, BinaryHelpless, OneAnswer, first_lines, line_feeds}
 use Rattle.gi_aiger.specs.Levels.{HasLevels, ClosesCycle}
 use Rattle.gi_aiger.specs.Lines.{lines_of, bare}
 use Rattle.gi_aiger.specs.Relation.{IsAig, head_of_aig}
 use Rattle.gi_aiger.specs.Sections.{sections_of}
-use Rattle.gi_aiger.proofs.Accepting.{said_read, ascii_read, binary_read}
-use Rattle.gi_aiger.proofs.Cutting.{cut, bare_again, lines_first, rest_lines, lines_from, Behind, Has, ascii_behind, ascii_has}
-use Rattle.gi_aiger.proofs.Ending.{file_stands, levels_of, levels_never, value_said, said_answered, answer_only}
-use Rattle.gi_aiger.proofs.Failing.{lines_stand, gates_stand, lines_end}
+use Rattle.gi_aiger.proofs.Accepting.{ascii_read, binary_read}
+use Rattle.gi_aiger.proofs.Cutting.{cut, bare_again, take_front, lines_first, rest_lines, lines_from, Behind, Has, ascii_behind, ascii_has}
+use Rattle.gi_aiger.proofs.Ending.{levels_never, value_said, said_answered, answer_only}
+use Rattle.gi_aiger.proofs.Failing.{lines_same, gates_same, lines_end}
 use Rattle.gi_aiger.proofs.Falling.{binary_levels}
 use Rattle.gi_aiger.proofs.Feeding.{AtGates, binary_behind}
 use Rattle.gi_aiger.proofs.Fitting.{header_within}
-use Rattle.gi_aiger.proofs.Growing.{Grown, first_grown, file_grown}
+use Rattle.gi_aiger.proofs.Growing.{Grown, file_grown}
 use Rattle.gi_aiger.proofs.Lining.{AreLines, lines_are}
 use Rattle.gi_aiger.proofs.OneCycle as cycles
+use Rattle.gi_aiger.proofs.Settling.{file_keeps}
 
-never : (v : Aig) (f : AigFault) (r : Result Aig AigFault) → r ≡ Err f → r ≡ Ok v → ⊥
-never v f r a b = cc
+-- a cycle stays where further gates come
+pub closes_more : (gs more : List AndGate) (k : ℕ) → ClosesCycle gs k → ClosesCycle (gs ++ more) k
+closes_more gs more k c =
+    let lt = c.within in
+    let before : take k (gs ++ more) ≡ take k gs = take_front k gs more (omega (arith, lt)) in
+    let with : take (k + 1) (gs ++ more) ≡ take (k + 1) gs = take_front (k + 1) gs more (omega (arith, lt)) in
+    record { within = omega (arith, lt, length-append gs more); before = subst HasLevels (sym before) c.before; closes = λ h. c.closes (subst HasLevels with h) }
 
--- gates that close a cycle are no value's
-pub cycle_never : (v : Aig) (bytes : List ℕ) (gates : List AndGate) (k : ℕ) → ClosesCycle gates k → Grown (take (k + 1) gates) (read_file bytes).gates → IsAig v bytes → ⊥
-cycle_never v bytes gates k closes (more, grown) is =
-    let same : v.gates ≡ take (k + 1) gates ++ more = sym (file_stands bytes v (said_read v bytes is)) ∙ grown in
-    cycles.stay gates more k closes (subst HasLevels same (levels_of v bytes is))
+cycle_line : ℕ → ℕ → Result Aig AigFault
+cycle_line k first = Err (record { line = first + k; gate = 0; code = Cycle })
 
-pub lines_helpless : Global → LinesHelpless
-lines_helpless a bytes f answer late v more is = by_answer answer where
+-- whole lines of which a fault is answered
+pub lines_last : Global → LinesLast
+unfolding cycle_line
+lines_last a bytes more f answer late = by_answer answer where
   whole : List ℕ
   whole = bytes ++ 10 ∷ []
 
-  by_answer : Answer (read_file whole) (Err f) → ⊥
-  by_answer (inl t) = never v f (read_file (whole ++ more)).read (lines_stand a bytes more f (sym t.1) late) (said_read v (whole ++ more) is)
-  by_answer (inr t) = cycle_never v (whole ++ more) (read_file whole).gates t.0 t.1 (first_grown (t.0 + 1) (read_file whole).gates (read_file (whole ++ more)).gates (file_grown a whole more (lines_end a bytes))) is
+  some_gate : (gs : List AndGate) (k : ℕ) → k < length gs → gs ≡ [] → ⊥
+  some_gate gs k lt none = let e : length gs ≡ 0 = ap (λ (xs : List AndGate). length xs) none in omega (arith, lt, e)
+
+  by_first : (k : ℕ) → ClosesCycle (read_file whole).gates k → Err f ≡ cycle_line k (read_file whole).first → Grown (read_file whole).gates (read_file (whole ++ more)).gates → ((read_file whole).gates ≡ []) ⊎ ((read_file (whole ++ more)).first ≡ (read_file whole).first) → Answer (read_file (whole ++ more)) (Err f)
+  by_first k c e (gs, grown) (inl none) = absurd (some_gate (read_file whole).gates k c.within none)
+  by_first k c e (gs, grown) (inr first) = inr (k, subst (λ (xs : List AndGate). ClosesCycle xs k) (sym grown) (closes_more (read_file whole).gates gs k c), e ∙ sym (ap (cycle_line k) first))
+
+  by_answer : Answer (read_file whole) (Err f) → Answer (read_file (whole ++ more)) (Err f)
+  by_answer (inl t) = subst (λ (told : Told). Answer told (Err f)) (sym (lines_same a bytes more f (sym t.1) late)) (inl t)
+  by_answer (inr t) = by_first t.0 t.1 t.2 (file_grown a whole more (lines_end a bytes)) (file_keeps a whole more (lines_end a bytes))
 
 gate_of : Result Aig AigFault → ℕ
 gate_of (Ok v) = 0
 gate_of (Err f) = f.gate
 
-pub gates_helpless : Global → GatesHelpless
+pub gates_last : Global → GatesLast
 unfolding gate_of
-gates_helpless a bytes f answer late gate v more is = by_answer answer where
-  by_answer : Answer (read_file bytes) (Err f) → ⊥
-  by_answer (inl t) = never v f (read_file (bytes ++ more)).read (gates_stand a bytes more f (sym t.1) late gate) (said_read v (bytes ++ more) is)
-  by_answer (inr t) = gate (ap gate_of t.2)
+gates_last a bytes more f answer late gate = by_answer answer where
+  by_answer : Answer (read_file bytes) (Err f) → Answer (read_file (bytes ++ more)) (Err f)
+  by_answer (inl t) = subst (λ (told : Told). Answer told (Err f)) (sym (gates_same a bytes more f (sym t.1) late gate)) (inl t)
+  by_answer (inr t) = absurd (gate (ap gate_of t.2))
+
+-- where a fault is answered, no value is said
+fault_only : (v : Aig) (bytes : List ℕ) (f : AigFault) → Answer (read_file bytes) (Err f) → IsAig v bytes → ⊥
+fault_only v bytes f answer is = never (answer_only (read_file bytes) (Ok v) (Err f) (said_answered v bytes is) answer) where
+  never : ◌≡◌ {A = Result Aig AigFault} (Ok v) (Err f) → ⊥
+  never e = cc
+
+pub lines_helpless : Global → LinesHelpless
+lines_helpless a bytes f answer late v more is = fault_only v ((bytes ++ 10 ∷ []) ++ more) f (lines_last a bytes more f answer late) is
+
+pub gates_helpless : Global → GatesHelpless
+gates_helpless a bytes f answer late gate v more is = fault_only v (bytes ++ more) f (gates_last a bytes more f answer late gate) is
 
 -- the lines up to the one that is named
 line_of : Result Aig AigFault → ℕ

@@ -34,6 +34,14 @@ FaultsStand = (bytes more : List ℕ) (f : AigFault) → (read_file (bytes ++ 10
 abbrev pub GateFaultsStand : Type 0
 GateFaultsStand = (bytes more : List ℕ) (f : AigFault) → (read_file bytes).read ≡ Err f → f.code ≢ End → f.gate ≢ 0 → (read_file (bytes ++ more)).read ≡ Err f
 
+-- whole lines of which a fault is answered, but for an early end: it is the answer however the input goes on behind them
+abbrev pub LinesLast : Type 0
+LinesLast = (bytes more : List ℕ) (f : AigFault) → Answer (read_file (bytes ++ 10 ∷ [])) (Err f) → f.code ≢ End → Answer (read_file ((bytes ++ 10 ∷ []) ++ more)) (Err f)
+
+-- and so a binary gate's, behind the byte that shows it
+abbrev pub GatesLast : Type 0
+GatesLast = (bytes more : List ℕ) (f : AigFault) → Answer (read_file bytes) (Err f) → f.code ≢ End → f.gate ≢ 0 → Answer (read_file (bytes ++ more)) (Err f)
+
 -- no value has bytes that begin with these
 abbrev pub NoneBegins : List ℕ → Type 0
 NoneBegins front = (v : Aig) (more : List ℕ) → IsAig v (front ++ more) → ⊥

@@ -1,5 +1,5 @@
 // Laws of the format.
-ghost use Rattle.gi_aiger.specs.Laws.{AsciiHelpless, BinaryHelpless, CycleIsOne, CyclesStay, FaultsStand, GateFaultsStand, GatesHelpless, LinesHelpless, OneAnswer, UndefinedIsHopeless};
+ghost use Rattle.gi_aiger.specs.Laws.{AsciiHelpless, BinaryHelpless, CycleIsOne, CyclesStay, FaultsStand, GateFaultsStand, GatesHelpless, GatesLast, LinesHelpless, LinesLast, OneAnswer, UndefinedIsHopeless};
 ghost use Rattle.gi_aiger.specs.Saying.{ReadIsSaid, SaidIsGood, SaidIsRead, WrittenAgain, WrittenIsRead, WrittenIsSaid};
 
 use std::alloc::Global;
@@ -20,6 +20,13 @@ pub fn undefined_stays()
 pub fn faults_stand(_alloc: Global)
     ensures lines { FaultsStand }
     ensures gates { GateFaultsStand }
+{}
+
+/// A fault other than an early end that is answered of whole lines, a cycle too, is the answer however the input goes on; and a
+/// binary gate's is from the byte on that shows it.
+pub fn answers_stand(_alloc: Global)
+    ensures lines { LinesLast }
+    ensures gates { GatesLast }
 {}
 
 /// Where a fault other than an early end is answered, a cycle of gates too, no continuation helps: no value has bytes that begin
