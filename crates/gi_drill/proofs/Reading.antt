@@ -4,7 +4,7 @@ use Rattle.std.specs.Prelude.{codes}
 use Rattle.std.specs.List.{AllByRecursion, flat_map, range_with_len}
 use Rattle.std.proofs.lemmas.Bool.{and_parts, le-leb}
 use Rattle.std.proofs.lemmas.Bool.Decides.{eqb_tells}
-use Rattle.std.proofs.lemmas.List.{append-nil}
+use Rattle.std.proofs.lemmas.List.{append-nil, length-map}
 use Rattle.std.proofs.lemmas.List.Elements.{All-from_recursion}
 use Rattle.gi_model.specs.declared.calls.Call.{Call}
 use Rattle.gi_model.specs.declared.calls.Call.TheVariants.{Vars, Add, NewGuard, Under, DropGuard, Assume, Solve, Wait, Bye}
@@ -19,10 +19,10 @@ use Rattle.gi_wire.specs.Items.{InLine, item, items_from}
 use Rattle.gi_wire.specs.Literals.{list_text}
 use Rattle.gi_wire.proofs.Reading.{line_first, nothing_ahead, short_line}
 use Rattle.gi_drill.specs.Instance.{first_clauses}
-use Rattle.gi_drill.specs.Laws.{ScriptIsRead}
-use Rattle.gi_drill.specs.Script.{call_text, ending, lines_text, numbered, round, rounds, script, variable_of}
+use Rattle.gi_drill.specs.Laws.{ScriptIsRead, ScriptIsShort}
+use Rattle.gi_drill.specs.Script.{call_text, ending, line_text, lines_text, numbered, round, rounds, script, variable_of}
 use Rattle.gi_drill.proofs.Drawing.{rounds_are}
-use Rattle.gi_drill.proofs.Instances.{triples}
+use Rattle.gi_drill.proofs.Instances.{clauses_count, triples}
 use Rattle.gi_drill.proofs.Phases.{IsTriple, AreWithin}
 use Rattle.gi_drill.proofs.Spelling.{IsSmall, decimal_word, list_read, list_short, no_lf, no_lf-append, no_lf-list, no_lf-word, word_last, word_space, words_list}
 
@@ -30,7 +30,7 @@ use Rattle.gi_drill.proofs.Spelling.{IsSmall, decimal_word, list_read, list_shor
 pub record IsReadable (c : Call) : Type 0 where
   pub asks : ask_of (words_of (call_text c)) ≡ Some (Makes c)
   pub no_lf : no_lf (call_text c) ≡ true
-  pub short : length (call_text c) ≤ 1048576
+  pub short : length (call_text c) ≤ 99
 
 reads_solve : IsReadable (Solve 4294967295)
 unfolding call_text words_from ask_of call_of call_alone
@@ -151,9 +151,34 @@ lines_read ended line (c ∷ cs) h =
     let first : line_at (text ++ 10 ∷ rest) ≡ Some (text, rest) = line_of_parts text rest (All-from_recursion (λ b. b ≢ 10) text (other_bytes text h.0.no_lf)) in
     ap (items_from ended line (InLine [])) (append_assoc text (10 ∷ []) rest ∙ sym (append-nil (text ++ 10 ∷ rest)))
     ∙ line_first ended line [] (text ++ 10 ∷ rest) text rest [] first
-    ∙ short_line line text (Some (Makes c)) (λ j p. items_from ended j p (rest ++ [])) h.0.short h.0.asks
+    ∙ short_line line text (Some (Makes c)) (λ j p. items_from ended j p (rest ++ [])) (omega (arith, h.0.short)) h.0.asks
     ∙ ap (λ (xs : List ℕ). item line (asked.Call c) ∷ items_from ended (line + 1) (InLine []) xs) (append-nil rest)
     ∙ ap (λ (is : List Item). item line (asked.Call c) ∷ is) (lines_read ended (line + 1) cs h.1)
 
 pub script_read : ScriptIsRead
 script_read ended n = lines_read ended 1 (script n) (reads_script n)
+
+-- the script has few calls, and each line is short
+lines_few : (cs : List Call) → AllByRecursion IsReadable cs → length (lines_text cs) ≤ 100 * length cs
+lines_few [] h = omega arith
+lines_few (c ∷ cs) h =
+    let all : length (lines_text (c ∷ cs)) ≡ length (line_text c) + length (lines_text cs) = length-append (line_text c) (lines_text cs) in
+    let line : length (line_text c) ≡ length (call_text c) + 1 = length-append (call_text c) (10 ∷ []) in
+    omega (arith, all, line, h.0.short, lines_few cs h.1)
+
+rounds_count : (a n : ℕ) → length (flat_map round (map variable_of (range_with_len a n))) ≡ 7 * n
+rounds_count a zero = refl
+rounds_count a (suc n) =
+    let e : length (flat_map round (map variable_of (range_with_len a (suc n)))) ≡ 7 + length (flat_map round (map variable_of (range_with_len (a + 1) n))) =
+    length-append (round (variable_of a)) (flat_map round (map variable_of (range_with_len (a + 1) n))) in
+    omega (arith, e, rounds_count (a + 1) n)
+
+calls_count : (n : ℕ) → length (script n) ≡ 607 + 7 * n
+unfolding script
+calls_count n =
+    let adds : length (map Add (first_clauses n 600)) ≡ 600 = length-map (first_clauses n 600) Add ∙ clauses_count n 600 in
+    let turns : length (rounds n) ≡ 7 * n = ap length (rounds_are n) ∙ rounds_count 0 n in
+    omega (arith, adds, turns, length-append (map Add (first_clauses n 600)) (Solve 4294967295 ∷ Wait ∷ (rounds n ++ ending)), length-append (rounds n) ending)
+
+pub script_short : ScriptIsShort
+script_short n = (calls_count n, omega (arith, calls_count n, lines_few (script n) (reads_script n)))

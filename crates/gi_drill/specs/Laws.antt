@@ -1,5 +1,5 @@
 -- Laws of the script.
-use Rattle.std.specs.Prelude.{◌≡◌, ◌≢◌, ℕ, ◌≤◌, ◌==◌, Bool, true, not, if◌then◌else◌, List, [], ◌∷◌, ◌++◌, map, filter}
+use Rattle.std.specs.Prelude.{◌≡◌, ◌≢◌, ℕ, ◌+◌, ◌*◌, ◌≤◌, ◌==◌, Bool, true, not, if◌then◌else◌, List, [], ◌∷◌, ◌++◌, length, map, filter}
 use Rattle.std.specs.List.{AllByRecursion}
 use Rattle.gi_lit.specs.Truth.{Satisfies}
 use Rattle.gi_model.specs.History.{Entry, IsLegal}
@@ -25,6 +25,10 @@ PlanSatisfies = (n : ℕ) → Satisfies (plan n) (clauses n)
 -- each line of the script is whole and asks for its call
 abbrev pub ScriptIsRead : Type 0
 ScriptIsRead = (ended : Bool) (n : ℕ) → items ended (script_text n) ≡ numbered 1 (script n)
+
+-- the rounds have 7 calls each, and 607 stand around them; a call's line has at most 100 bytes, its LF among them
+abbrev pub ScriptIsShort : Type 0
+ScriptIsShort = (n : ℕ) → (length (script n) ≡ 607 + 7 * n) × (length (script_text n) ≤ 100 * (607 + 7 * n))
 
 -- the last call of the script is the only bye
 abbrev pub ByeIsLast : Type 0

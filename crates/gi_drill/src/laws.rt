@@ -1,5 +1,5 @@
 //! Laws of the script: each is the contract of a function that does nothing.
-ghost use Rattle.gi_drill.specs.Laws.{ByeIsLast, ClausesAreTaken, FewAreSat, FewAreUnsat, NoneIsRefused, OwnCallsAreAll, PlanSatisfies, ScriptIsRead, SessionsPlay, TalliesGrow, VariablesAreTold};
+ghost use Rattle.gi_drill.specs.Laws.{ByeIsLast, ClausesAreTaken, FewAreSat, FewAreUnsat, NoneIsRefused, OwnCallsAreAll, PlanSatisfies, ScriptIsRead, ScriptIsShort, SessionsPlay, TalliesGrow, VariablesAreTold};
 
 /// The plan satisfies all clauses.
 pub fn plan_satisfies()
@@ -10,6 +10,11 @@ pub fn plan_satisfies()
 pub fn script_is_read()
     ensures read { ScriptIsRead }
     ensures bye { ByeIsLast }
+{}
+
+/// The script of n rounds has 607 + 7 n calls, each in a line of at most 100 bytes, its LF among them.
+pub fn script_is_short()
+    ensures { ScriptIsShort }
 {}
 
 /// A session that was given the script and ended by `bye` has made the script's calls, and no answer was want of memory or

@@ -13,7 +13,9 @@ mod tests;
 mod text;
 mod writing;
 
-pub use laws::{plan_satisfies, script_is_read, script_is_taken, sessions_play, tallies_grow};
+pub use laws::{
+    plan_satisfies, script_is_read, script_is_short, script_is_taken, sessions_play, tallies_grow,
+};
 pub use printing::print_tally;
 pub use script::write_script;
 pub use tally::Tally;
