@@ -10,10 +10,11 @@ use Rattle.gi_aiger.specs.declared.mark.Mark.TheVariants.{Fresh, Used, Defined}
 use Rattle.gi_aiger.specs.declared.row.Row.{Row}
 use Rattle.gi_aiger.specs.declared.row.Row.TheVariants as rows
 use Rattle.gi_aiger.specs.Rows.{uses_of, literals_in, defined_by, variables_by, defined_variables, IsClosed}
+use Rattle.gi_aiger.specs.Laws.{UsedIsUndefined}
 use Rattle.gi_aiger.specs.Marks.{is_fresh, missing, mark_at, with_mark, used, used_literal, all_used, defined, marked, marks_of}
 use Rattle.gi_aiger.specs.Taking.{is_defined, is_known}
 use Rattle.gi_aiger.specs.Relation.{AreOnce}
-use Rattle.gi_aiger.proofs.Marking.{weight, variables, at_same, at_other, missing_with, falls, marks-append, rows_keep, rows_define}
+use Rattle.gi_aiger.proofs.Marking.{weight, variables, at_same, at_other, missing_with, falls, marks-append, rows_keep, rows_define, rows_was}
 
 -- what is marked as defined was so, or these lines define it
 used_def : (l v : ℕ) (ms : List Mark) → mark_at (used_literal l ms) v ≡ Defined → mark_at ms v ≡ Defined
@@ -243,3 +244,20 @@ few_missing (i ∷ ins) others (d ∷ done) later ms e plain none closed =
     let first : d ≡ rows.Input i = cc in
     let rest : done ++ later ≡ map rows.Input ins ++ others = cc in
     subst (λ (r : Row). missing (marks_of done (marked r ms)) ≤ sum_by latch_in later + sum_by gate_in later) (sym first) (few_missing ins others done later (marked (rows.Input i) ms) rest plain (input_none i ms none) closed)
+
+-- what is marked as used is used and not defined
+pub used_undefined : UsedIsUndefined
+used_undefined lines v = (
+  λ e. (
+    elim (rows_was lines v [] e) [ inl old ↦ absurd cc | inr used ↦ used ],
+    λ d. twice (mark_at (marks_of lines []) v) e (rows_define lines v [] d),
+  ),
+  λ p. by_mark (mark_at (marks_of lines []) v) refl (rows_use lines v [] p.0) p.1,
+) where
+  twice : (m : Mark) → m ≡ Used → m ≡ Defined → ⊥
+  twice m a b = cc
+
+  by_mark : (m : Mark) → mark_at (marks_of lines []) v ≡ m → m ≢ Fresh → (Contains (defined_variables lines) v → ⊥) → m ≡ Used
+  by_mark Fresh is fresh undefined = absurd (fresh refl)
+  by_mark Used is fresh undefined = refl
+  by_mark Defined is fresh undefined = absurd (undefined (only_defined lines v is))

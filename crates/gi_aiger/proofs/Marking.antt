@@ -164,7 +164,7 @@ defined_was : (d : Option ℕ) (v : ℕ) (ms : List Mark) → mark_at (defined d
 defined_was None v ms h = h
 defined_was (Some w) v ms h = elim (eqb_tells v w) [ inl e ↦ let same = at_same w Defined ms in let at_w = subst (λ (i : ℕ). mark_at (with_mark w Defined ms) i ≡ Used) e.1 h in absurd cc | inr n ↦ sym (at_other w v Defined ms n.1) ∙ h ]
 
-rows_was : (rs : List Row) (v : ℕ) (ms : List Mark) → mark_at (marks_of rs ms) v ≡ Used → (mark_at ms v ≡ Used) ⊎ Contains (flat_map uses_of rs) v
+pub rows_was : (rs : List Row) (v : ℕ) (ms : List Mark) → mark_at (marks_of rs ms) v ≡ Used → (mark_at ms v ≡ Used) ⊎ Contains (flat_map uses_of rs) v
 rows_was [] v ms h = inl h
 rows_was (r ∷ rs) v ms h = elim (rows_was rs v (marked r ms) h) [
   | inl u ↦ elim (all_was (literals_in r) v (defined (defined_by r) ms) u) [ inl old ↦ inl (defined_was (defined_by r) v ms old) | inr new ↦ inr (left (uses_of r) (flat_map uses_of rs) v new) ]

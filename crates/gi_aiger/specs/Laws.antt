@@ -1,13 +1,15 @@
 -- What holds of the format.
-use Rattle.std.specs.Prelude.{◌≡◌, ◌≢◌, ℕ, ◌+◌, ◌<◌, ◌==◌, List, [], ◌∷◌, ◌++◌, length, map, filter, take, Result, Ok, Err}
+use Rattle.std.specs.Prelude.{◌≡◌, ◌≢◌, ◌↔◌, Contains, ℕ, ◌+◌, ◌<◌, ◌==◌, List, [], ◌∷◌, ◌++◌, length, map, filter, take, Result, Ok, Err}
 use Rattle.gi_aiger.specs.declared.aig.Aig.{Aig}
 use Rattle.gi_aiger.specs.declared.fault.AigCode.TheVariants.{End}
 use Rattle.gi_aiger.specs.declared.fault.AigFault.{AigFault}
+use Rattle.std.specs.List.{flat_map}
+use Rattle.gi_aiger.specs.declared.mark.Mark.TheVariants.{Used}
 use Rattle.gi_aiger.specs.Files.{read_file}
 use Rattle.gi_aiger.specs.declared.aig.AndGate.{AndGate}
 use Rattle.gi_aiger.specs.declared.row.Row.{Row}
-use Rattle.gi_aiger.specs.Rows.{defined_variables, IsClosed}
-use Rattle.gi_aiger.specs.Marks.{missing, marks_of}
+use Rattle.gi_aiger.specs.Rows.{uses_of, defined_variables, IsClosed}
+use Rattle.gi_aiger.specs.Marks.{mark_at, missing, marks_of}
 use Rattle.gi_aiger.specs.Levels.{HasLevels, ClosesCycle}
 use Rattle.gi_aiger.specs.Answers.{Answer}
 use Rattle.gi_aiger.specs.Lines.{lines_of, bare, text_of}
@@ -25,6 +27,10 @@ CyclesStay = (gates more : List AndGate) (k : ℕ) → ClosesCycle gates k → H
 -- where more variables are used and undefined than lines behind them define, some stay undefined
 abbrev pub UndefinedIsHopeless : Type 0
 UndefinedIsHopeless = (before more : List Row) → length (defined_variables more) < missing (marks_of before []) → IsClosed (before ++ more) → ⊥
+
+-- a variable is marked as used, and so counted as used and undefined, exactly where the lines so far use it and none of them defines it
+abbrev pub UsedIsUndefined : Type 0
+UsedIsUndefined = (lines : List Row) (v : ℕ) → (mark_at (marks_of lines []) v ≡ Used) ↔ (Contains (flat_map uses_of lines) v × (Contains (defined_variables lines) v → ⊥))
 
 -- a fault of whole lines, but for an early end, is the fault however the input goes on behind them; cycles of gates are left aside
 abbrev pub FaultsStand : Type 0

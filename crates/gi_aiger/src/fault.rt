@@ -2,7 +2,7 @@
 use thiserror::Error;
 
 /// What is wrong with a line of a file, or with a binary gate. Where a line has several faults, the first of this list is
-/// named.
+/// named. Of a binary gate's two differences the first is judged before the second.
 #[derive(Clone, Copy, Debug, PartialEq, Eq, Error)]
 pub enum AigCode {
     /// The first line isn't `aag` or `aig` and five to nine unsigned numbers, parted by single spaces; or its counts of
@@ -29,9 +29,8 @@ pub enum AigCode {
     /// alone: in the binary one each variable up to the greatest is defined.
     #[error("a variable can't be defined any more")]
     Undefined,
-    /// The differences of a binary gate break that its literal is above its greater operand, that this is not below the lesser
-    /// one, and that none is below 0: the first difference is 0 or above the gate's literal, or the second one is above the
-    /// greater operand.
+    /// A binary gate's differences don't give literal > greater operand >= other operand >= 0: the first difference is 0 or
+    /// above the gate's literal, or the second one is above the greater operand.
     #[error("a binary gate's operands are out of order")]
     Order,
     /// The gate of this line closes a cycle with gates before it, among which there is none. It is named before what is wrong
@@ -51,8 +50,8 @@ pub enum AigCode {
 #[derive(Clone, Copy, Debug, PartialEq, Eq, Error)]
 #[error("line {line}, gate {gate}: {code}")]
 pub struct AigFault {
-    /// The line, from 1. Binary gates are at the number of lines before them plus one; what is missing at the end of the
-    /// input is at the number of lines plus one.
+    /// The line, from 1. Binary gates are at the number of lines before them plus one, and so is the first line behind them,
+    /// as their bytes are no lines. An early end is at the number of lines plus one, or at that of the binary gates.
     pub line: u64,
     /// The binary gate, from 1, or 0 where no binary gate is at fault.
     pub gate: u32,

@@ -1,5 +1,5 @@
 // Laws of the format.
-ghost use Rattle.gi_aiger.specs.Laws.{AsciiHelpless, BinaryHelpless, CycleIsOne, CyclesStay, FaultsStand, GateFaultsStand, GatesHelpless, GatesLast, LinesHelpless, LinesLast, OneAnswer, UndefinedIsHopeless};
+ghost use Rattle.gi_aiger.specs.Laws.{AsciiHelpless, BinaryHelpless, CycleIsOne, CyclesStay, FaultsStand, GateFaultsStand, GatesHelpless, GatesLast, LinesHelpless, LinesLast, OneAnswer, UndefinedIsHopeless, UsedIsUndefined};
 ghost use Rattle.gi_aiger.specs.Saying.{ReadIsSaid, SaidIsGood, SaidIsRead, WrittenAgain, WrittenIsRead, WrittenIsSaid};
 
 use std::alloc::Global;
@@ -13,6 +13,12 @@ pub fn cycles_stay()
 /// Where more variables are used and undefined than lines to come define, no continuation defines them all.
 pub fn undefined_stays()
     ensures { UndefinedIsHopeless }
+{}
+
+/// The variables that are counted as used and undefined behind some lines are those that these lines use and none of them
+/// defines.
+pub fn used_and_undefined()
+    ensures { UsedIsUndefined }
 {}
 
 /// A fault other than an early end, in a text of whole lines, is the fault however the input goes on; and a binary gate's is from

@@ -29,7 +29,7 @@ pub use aig::{Aig, AndGate, Latch, Reset, Symbol};
 pub use fault::{AigCode, AigFault};
 pub use laws::{
     answers_stand, cycles_stay, faults_stand, no_continuation_helps, one_answer, read_is_said,
-    said_is_good, said_is_read, undefined_stays, written_is_read,
+    said_is_good, said_is_read, undefined_stays, used_and_undefined, written_is_read,
 };
 pub use lists::{EdgeLists, Edges, Gates, Latches, Symbols};
 pub use read::AigRead;
