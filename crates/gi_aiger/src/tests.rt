@@ -1,4 +1,9 @@
-use crate::{Aig, AigFault, AigRead, AigReader, write_ascii};
+use crate::{
+    Aig, AigFault, AigRead, AigReader, AndGate, EdgeLists, Edges, Gates, Latch, Latches, Reset,
+    Symbol, Symbols, write_ascii,
+};
+use gi_lit::Edge;
+use gi_text::Bytes;
 use std::alloc::Global;
 use std::test::Fail;
 
@@ -198,5 +203,56 @@ fn has_one_output(rt: HostRuntime) -> Result<(), Fail> {
     let aig = value_of(rt.alloc(), b"aag 0 0 0 1 0\n1")?;
     assert_eq!(rt; aig.outs.len(), 1);
     assert_eq!(rt; aig.outs.get(0).map(|edge| edge.code()), Some(1));
+    Ok(())
+}
+
+#[test]
+fn lists_of_literals_keep_them(rt: HostRuntime) -> Result<(), Fail> {
+    let alloc = rt.alloc();
+    let mut edges = Edges::new(alloc);
+    edges.push(Edge::new(7))?;
+    assert_eq!(rt; edges.get(0).map(|edge| edge.code()), Some(7));
+    let mut lists = EdgeLists::new(alloc);
+    lists.push(edges)?;
+    assert_eq!(rt; lists.get(0).map(|list| list.len()), Some(1));
+    assert!(rt; lists.get(1).is_none());
+    Ok(())
+}
+
+#[test]
+fn lists_of_latches_keep_them(rt: HostRuntime) -> Result<(), Fail> {
+    let mut latches = Latches::new(rt.alloc());
+    latches.push(Latch {
+        lit: Edge::new(2),
+        next: Edge::new(3),
+        reset: Reset::Free,
+    })?;
+    assert_eq!(rt; latches.get(0).map(|latch| latch.next.code()), Some(3));
+    Ok(())
+}
+
+#[test]
+fn lists_of_gates_keep_them(rt: HostRuntime) -> Result<(), Fail> {
+    let mut gates = Gates::new(rt.alloc());
+    gates.push(AndGate {
+        lhs: Edge::new(6),
+        rhs0: Edge::new(5),
+        rhs1: Edge::new(2),
+    })?;
+    assert_eq!(rt; gates.get(0).map(|gate| gate.rhs0.code()), Some(5));
+    Ok(())
+}
+
+#[test]
+fn lists_of_symbols_keep_them(rt: HostRuntime) -> Result<(), Fail> {
+    let alloc = rt.alloc();
+    let mut symbols = Symbols::new(alloc);
+    symbols.push(Symbol {
+        kind: b'i',
+        place: 4,
+        name: Bytes::of(alloc, b"x")?,
+    })?;
+    assert_eq!(rt; symbols.get(0).map(|symbol| symbol.place), Some(4));
+    assert!(rt; symbols.get(1).is_none());
     Ok(())
 }
