@@ -1,15 +1,15 @@
 ghost use Rattle.std.specs.Prelude.{IfOk, IfSome};
-ghost use Rattle.gi_aiger_binary.specs.Sound.{IsWritable};
+ghost use Rattle.gi_aiger_binary.specs.Sound.{IsSound, IsWritable};
 
 use crate::differences::put_difference;
-use crate::{good_is_writable, renumber, write_binary};
+use crate::{good_is_writable, numbered_is_good, renumber, write_binary};
 use gi_aiger::{Aig, AigRead, AigReader, said_is_good, write_ascii};
 use gi_text::Bytes;
 use std::alloc::{AllocError, Global};
 use std::test::Fail;
 
 // A file, the binary form of what it says, and that value numbered anew in the ASCII form.
-const ROWS: [(&[u8], &[u8], &[u8]); 4] = [
+const ROWS: [(&[u8], &[u8], &[u8]); 5] = [
     (
         b"aag 5 1 0 1 2\n2\n10\n10 8 3\n8 2 2\n",
         b"aig 3 1 0 1 2\n6\n\x02\x00\x02\x01",
@@ -19,6 +19,11 @@ const ROWS: [(&[u8], &[u8], &[u8]); 4] = [
         b"aag 3 2 0 1 1\n2\n4\n6\n6 2 4\n",
         b"aig 3 2 0 1 1\n6\n\x02\x02",
         b"aag 3 2 0 1 1\n2\n4\n6\n6 4 2\n",
+    ),
+    (
+        b"aag 0 0 0 1 0\n1\ncn x\n",
+        b"aig 0 0 0 1 0\n1\nc\nn x\n",
+        b"aag 0 0 0 1 0\n1\nc\nn x\n",
     ),
     (
         b"aag 7 2 1 2 4\n2\n4\n6 8\n6\n7\n8 4 10\n10 13 15\n12 2 6\n14 3 7\ni0 enable\ni1 reset\no0 Q\no1 !Q\n",
@@ -34,7 +39,7 @@ const ROWS: [(&[u8], &[u8], &[u8]); 4] = [
 
 // The value that a file says, if it says one.
 fn value_of(alloc: Global, text: &[u8]) -> Result<Option<Aig>, AllocError>
-    ensures { IfOk result (λ value. IfSome value IsWritable) }
+    ensures { IfOk result (λ value. IfSome value (λ v. IsWritable v × IsSound v)) }
 {
     said_is_good();
     good_is_writable();
@@ -54,10 +59,29 @@ fn binary_of(alloc: Global, text: &[u8]) -> Result<Option<Bytes>, AllocError> {
     }
 }
 
-fn numbered(alloc: Global, text: &[u8]) -> Result<Option<Bytes>, AllocError> {
+// That value, numbered anew: it can be numbered anew again.
+fn numbered(alloc: Global, text: &[u8]) -> Result<Option<Aig>, AllocError>
+    ensures { IfOk result (λ value. IfSome value IsWritable) }
+{
+    numbered_is_good();
+    good_is_writable();
     match value_of(alloc, text)? {
         None => Ok(None),
-        Some(aig) => Ok(Some(write_ascii(alloc, &renumber(alloc, &aig)?)?)),
+        Some(aig) => Ok(Some(renumber(alloc, &aig)?)),
+    }
+}
+
+fn numbered_binary(alloc: Global, text: &[u8]) -> Result<Option<Bytes>, AllocError> {
+    match numbered(alloc, text)? {
+        None => Ok(None),
+        Some(aig) => Ok(Some(write_binary(alloc, &aig)?)),
+    }
+}
+
+fn numbered_ascii(alloc: Global, text: &[u8]) -> Result<Option<Bytes>, AllocError> {
+    match numbered(alloc, text)? {
+        None => Ok(None),
+        Some(aig) => Ok(Some(write_ascii(alloc, &aig)?)),
     }
 }
 
@@ -67,9 +91,11 @@ fn writes_and_reads_the_rows(rt: HostRuntime) -> Result<(), Fail> {
     for (text, binary, ascii) in ROWS {
         let written = binary_of(alloc, text)?.ok_or("no value")?;
         assert_eq!(rt; written.as_slice(), binary);
-        let again = binary_of(alloc, binary)?.ok_or("no value")?;
+        let again = binary_of(alloc, written.as_slice())?.ok_or("no value")?;
         assert_eq!(rt; again.as_slice(), binary);
-        let numbered = numbered(alloc, text)?.ok_or("no value")?;
+        let numbered = numbered_binary(alloc, text)?.ok_or("no value")?;
+        assert_eq!(rt; numbered.as_slice(), binary);
+        let numbered = numbered_ascii(alloc, text)?.ok_or("no value")?;
         assert_eq!(rt; numbered.as_slice(), ascii);
     }
     Ok(())
