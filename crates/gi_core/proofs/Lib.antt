@@ -9,3 +9,4 @@ pub mod Folding
 pub mod Adding
 pub mod Filing
 pub mod Running
+pub mod Spending

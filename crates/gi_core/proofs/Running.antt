@@ -12,7 +12,7 @@ use Rattle.gi_model.specs.declared.replies.Reply.TheVariants as reply
 use Rattle.gi_model.proofs.Histories.{histories_kept}
 use Rattle.gi_core.specs.Laws.{Runs, StepsAreLegal, StepsKeep, StepsTell, StepsGiveCleanGuards, SolvesStayShort}
 
-runs_from : (es : List Entry) (s t : State) → Runs s es t → IsLegalFrom s es × (t ≡ after_all s es)
+pub runs_from : (es : List Entry) (s t : State) → Runs s es t → IsLegalFrom s es × (t ≡ after_all s es)
 unfolding after_all
 runs_from [] s t r = (tt, r)
 runs_from (e ∷ es) s t r =

@@ -1,7 +1,8 @@
 //! Laws over what the steps of a new machine make, each the contract of a function that does nothing.
 
-ghost use Rattle.gi_core.specs.Laws.{StepsAreLegal, StepsKeep, StepsTell, StepsGiveCleanGuards, SolvesStayShort};
+ghost use Rattle.gi_core.specs.Laws.{StepsAreLegal, StepsKeep, StepsTell, StepsGiveCleanGuards, SolvesStayShort, SolvesEndShort};
 
+use gi_lit::laws::fresh_clauses_are_few;
 use gi_model::{guards_are_clean, learnt_clauses_are_told, solves_are_short};
 
 /// The steps of a new machine are a legal history, and its state is the one after it.
@@ -33,4 +34,12 @@ pub fn solves_stay_short()
     ensures { SolvesStayShort }
 {
     solves_are_short();
+}
+
+/// And at its end it has learnt no more than that, the last slice counted: the news since its start are at most 3^n, however it ended. So where it
+/// ended out of budget its budget was at most 3^n.
+pub fn solves_end_short()
+    ensures { SolvesEndShort }
+{
+    fresh_clauses_are_few();
 }
