@@ -2,8 +2,10 @@ use gi_lit::{Lit, Var};
 use std::alloc::{AllocError, Global};
 use std::collections::BinaryHeap;
 
-// How much the scores of the first conflict rise, and where the rise and all scores are scaled down.
+// How much the scores of the first conflict rise.
 const FIRST_RISE: u64 = 1 << 20;
+
+// Where the rise and all scores are scaled down.
 const MOST_RISE: u64 = 1 << 52;
 
 /// The order in which variables are decided, with the last value of each. The greatest score comes first, and of equal ones the least variable.
