@@ -8,3 +8,4 @@ pub mod Steps
 pub mod Drawing
 pub mod Adding
 pub mod Extending
+pub mod Extensions

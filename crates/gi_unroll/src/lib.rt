@@ -5,9 +5,11 @@ mod builder;
 mod clauses;
 mod extend;
 mod frame;
+mod laws;
 #[cfg(test)]
 mod tests;
 mod unroll;
 
 pub use frame::Frame;
+pub use laws::extensions_are_one;
 pub use unroll::Unroll;
