@@ -1,13 +1,16 @@
-use Rattle.std.proofs.Common.{◌≡◌, ◌≢◌, ℕ, suc, ◌+◌, ◌-◌, ◌/◌, ◌<◌, ◌≤◌, Bool, cond, List, [], ◌++◌, length, get_or, sym, ap, ◌∙◌, subst, arith, inl, inr}
-use Rattle.std.proofs.lemmas.Bool.{cases_eq, eq-eqb, ne_eqb}
-use Rattle.std.proofs.lemmas.List.{length-map}
+use Rattle.std.proofs.Common.{◌≡◌, ◌≢◌, ℕ, suc, ◌+◌, ◌-◌, ◌/◌, ◌<◌, ◌≤◌, Bool, cond, List, [], ◌++◌, length, map, get_or, sym, ap, ◌∙◌, subst, arith, inl, inr, length-append}
+use Rattle.std.specs.List.{All, sum_by}
+use Rattle.std.proofs.lemmas.Bool.{cases_eq, cases_lt, eq-eqb, ne_eqb}
+use Rattle.std.proofs.lemmas.List.{length-map, get_or_append_left, get_or-append-add}
 use Rattle.std.proofs.lemmas.List.Elements.{All-map}
+use Rattle.std.proofs.lemmas.List.Sums.{sum_by-append}
 use Rattle.gi_circuit.specs.Systems.{System, IsCircuit}
-use Rattle.gi_circuit.specs.Frames.{Draft, Frames, edge_of, rebuilt_draft, frame_of}
+use Rattle.gi_circuit.specs.Frames.{Draft, Frames, edge_of, lit_of, inputs_along, latches_along, rebuilt_draft, frame_of}
 use Rattle.gi_circuit.specs.Encoding.{IsUnrolled}
-use Rattle.gi_unroll.specs.Frames.{most_of, top_after, with_frame, IsKept, KeepsEncoding, KeepsLiterals}
-use Rattle.gi_unroll.proofs.Steps.{Grows, edge_within}
-use Rattle.gi_unroll.proofs.Drawing.{before, nodes_drawn, all_drawn}
+use Rattle.gi_unroll.specs.Frames.{most_of, top_after, with_frame, IsKept, KeepsEncoding, KeepsLiterals, IsNamed, NamesVariables, IsShort}
+use Rattle.gi_unroll.specs.Steps.{HasLiteral}
+use Rattle.gi_unroll.proofs.Steps.{Grows, edge_within, lit_known, All-longer, length-longer}
+use Rattle.gi_unroll.proofs.Drawing.{before, nodes_drawn, all_drawn, inputs_within, latches_drawn, begun_few}
 use Rattle.gi_unroll.proofs.Framing.{IsUnrolled-more, IsUnrolled-same, tells}
 
 module _ (s : System) (c : IsCircuit s) (f : Frames) (top n : ℕ) (kept : IsKept (record { system = s; frames = f; top = top })) (above : top < n) where
@@ -97,3 +100,68 @@ module _ (s : System) (c : IsCircuit s) (f : Frames) (top n : ℕ) (kept : IsKep
     unrolled_more earlier u,
     tells s c.net.ordered c.wired.resets c.wired.nexts c.wired.next_nodes earlier top f u n above c.wired.out_nodes c.wired.bad_nodes c.wired.con_nodes,
   )
+
+  -- each literal that a node has is of a variable of the frame or of those before
+  named : (v : ℕ) → HasLiteral ending.lits v → IsNamed (record { system = s; frames = f; top = top }) n v
+  unfolding frame_of
+  named v h =
+      let more : List ℕ = grown.longer.lits.0 in
+      let q : ending.lits ≡ f.lits ++ grown.longer.lits.0 = grown.longer.lits.1 in
+      let n_le = grown.from in
+      let l = ap length q in
+      let lt = h.1 in
+      let at : get_or (f.lits ++ grown.longer.lits.0) h.0 0 / 2 ≡ v = ap (λ zs. get_or zs h.0 0 / 2) (sym q) ∙ h.2 in
+      elim (cases_lt h.0 (length f.lits)) [
+        | inl below ↦ inr (h.0, below, ap (λ z. z / 2) (sym (get_or_append_left f.lits grown.longer.lits.0 0 h.0 below)) ∙ at)
+        | inr ge ↦
+            let j : ℕ = h.0 - length f.lits in
+            let r = grown.fresh (h.0 - length f.lits) 0 (omega (arith, lt, l, ge, length-append f.lits grown.longer.lits.0)) in
+            let r0 = r.0 in
+            let r1 = r.1 in
+            let here : get_or grown.longer.lits.0 (h.0 - length f.lits) 0 / 2 ≡ v =
+            ap (λ z. z / 2) (sym (get_or-append-add f.lits grown.longer.lits.0 (h.0 - length f.lits) 0)) ∙ ap (λ i. get_or (f.lits ++ grown.longer.lits.0) i 0 / 2) (let e : length f.lits + (h.0 - length f.lits) ≡ h.0 = omega arith in e) ∙ at in
+            inl (omega (arith, r0, here), (let w : v < n + (ending.next - n) = omega (arith, r1, here, n_le) in w))
+      ]
+
+  abbrev Named : ℕ → Type 0
+  Named l = IsNamed (record { system = s; frames = f; top = top }) n (l / 2)
+
+  edge_named : (e : ℕ) → e / 2 ≤ length ending.net → Named (lit_of ending.lits e)
+  edge_named e le = let r = nodes_drawn s c f top n kept above in let count = r.ready.count in named (lit_of ending.lits e / 2) (lit_known ending.lits e (omega arith))
+
+  edges_named : (es : List ℕ) → All (λ e. e / 2 ≤ length ending.net) es → All Named (map (lit_of ending.lits) es)
+  edges_named es h = All-map Named (lit_of ending.lits) es (λ k d lt. edge_named (get_or es k d) (h k d lt))
+
+  list_named : (es : List ℕ) → All (λ e. e / 2 ≤ length s.parts.nodes) es → All Named (map (lit_of ending.lits) (map (edge_of ending.edges) es))
+  list_named es h =
+      let r = nodes_drawn s c f top n kept above in
+      edges_named (map (edge_of ending.edges) es) (All-map (λ e. e / 2 ≤ length ending.net) (edge_of ending.edges) es (λ k d jl. edge_within ending (0 + length s.parts.nodes) (get_or es k d) r.edges (let le = h k d jl in omega arith)))
+
+  -- all that the frame names
+  pub variables_named : NamesVariables (record { system = s; frames = f; top = top }) n
+  unfolding frame_of
+  variables_named =
+      let r = nodes_drawn s c f top n kept above in
+      let longer = length-longer (latches_along s f n).draft ending r.grows.longer in
+      record {
+        clauses = subst (All (All Named)) (sym grown.clauses.are) (λ k d lt i e il. named (get_or (get_or grown.clauses.more k d) i e / 2) (grown.clauses.known k d lt i e il));
+        inputs = edges_named (inputs_along s f n).edges (All-longer (length (latches_along s f n).draft.net) (length ending.net) (inputs_along s f n).edges longer (inputs_within s c f top n kept above));
+        latches = edges_named (latches_along s f n).edges (All-longer (length (latches_along s f n).draft.net) (length ending.net) (latches_along s f n).edges longer (latches_drawn s c f top n kept above).within);
+        outs = list_named s.outs c.wired.out_nodes;
+        bads = list_named s.bads c.wired.bad_nodes;
+        cons = list_named s.cons c.wired.con_nodes;
+      }
+
+  pub few_clauses : IsShort s (frame_of s f n).added
+  unfolding frame_of
+  few_clauses =
+      let g = (nodes_drawn s c f top n kept above).grows.clauses in
+      let b = begun_few s c f top n kept above in
+      let few = b.0 in
+      let short = b.1 in
+      let l = ap (λ (cs : List (List ℕ)). length cs) g.are in
+      let m = ap (λ (cs : List (List ℕ)). sum_by (λ (c : List ℕ). length c) cs) g.are in
+      record {
+        clauses = omega (arith, few, l, g.count, length-append (latches_along s f n).draft.clauses g.more);
+        literals = omega (arith, short, m, g.literals, sum_by-append (λ (c : List ℕ). length c) (latches_along s f n).draft.clauses g.more);
+      }

@@ -1,15 +1,15 @@
-use Rattle.std.proofs.Common.{◌≡◌, ◌≢◌, ℕ, ◌+◌, ◌*◌, ◌/◌, ◌<◌, ◌≤◌, cond, [], ◌∷◌, ◌++◌, length, get_or, refl, sym, ap, ◌∙◌, subst, arith, inl, inr}
-use Rattle.std.specs.List.{All, fold, count_by}
+use Rattle.std.proofs.Common.{◌≡◌, ◌≢◌, ℕ, ◌+◌, ◌*◌, ◌/◌, ◌<◌, ◌≤◌, cond, List, [], ◌∷◌, ◌++◌, length, get_or, refl, sym, ap, ◌∙◌, subst, arith, inl, inr}
+use Rattle.std.specs.List.{All, fold, count_by, sum_by}
 use Rattle.std.proofs.lemmas.Bool.{cases_eq, eq-eqb, ne_eqb}
 use Rattle.std.proofs.lemmas.List.{append-nil}
-use Rattle.std.proofs.lemmas.List.Elements.{All-cons, All-nil}
+use Rattle.std.proofs.lemmas.List.Elements.{All-cons, All-from_recursion, All-nil}
 use Rattle.gi_circuit.specs.Nodes.{is_gate, IsPlaced, IsOrdered}
 use Rattle.gi_circuit.specs.declared.node.Node.TheVariants.{Input}
 use Rattle.gi_circuit.specs.Systems.{System, IsCircuit}
 use Rattle.gi_circuit.specs.Frames.{Draft, Frames, Along, reset_along, draft_of, latches_of, inputs_along, latches_along, rebuilt_draft}
-use Rattle.gi_unroll.specs.Steps.{IsReady, HasEdges, along}
+use Rattle.gi_unroll.specs.Steps.{IsReady, HasEdges, HasLiteral, along}
 use Rattle.gi_unroll.specs.Frames.{most_of, IsKept}
-use Rattle.gi_unroll.proofs.Steps.{Grows, Grows-trans, Grows-refl, AreEdges, AreEdges-none, AreEdges-inputs, AreEdges-resets, All-longer, length-longer, NodesMore, nodes_more}
+use Rattle.gi_unroll.proofs.Steps.{Grows, adds_none, Grows-trans, Grows-refl, AreEdges, AreEdges-none, AreEdges-inputs, AreEdges-resets, All-longer, length-longer, NodesMore, nodes_more}
 
 -- what stands before a frame
 abbrev pub before : Frames → ℕ → Draft
@@ -39,6 +39,8 @@ module _ (s : System) (c : IsCircuit s) (f : Frames) (top n : ℕ) (kept : IsKep
     pub ready : IsReady d
     pub grows : Grows (before f n) d 1
     pub edges : d.edges ≡ 0 ∷ []
+    pub few : length d.clauses ≤ 1
+    pub short : sum_by (λ (c : List ℕ). length c) d.clauses ≤ 1
 
   begun_first : f.made ≡ 0 → IsBegun (first_draft f n)
   begun_first e =
@@ -51,8 +53,18 @@ module _ (s : System) (c : IsCircuit s) (f : Frames) (top n : ℕ) (kept : IsKep
           next = omega arith;
           same = λ q. absurd (omega arith);
           covers = λ v lo hi. (0, omega arith, (let half : (2 * n + 1) / 2 ≡ v = omega arith in half));
+          fresh = All-from_recursion (λ l. (n ≤ l / 2) × (l / 2 < n + 1)) ((2 * n + 1) ∷ []) ((omega arith, omega arith), tt);
+          clauses = record {
+            more = (2 * n ∷ []) ∷ [];
+            are = refl;
+            known = All-from_recursion (All (λ l. HasLiteral ((2 * n + 1) ∷ []) (l / 2))) ((2 * n ∷ []) ∷ []) (All-from_recursion (λ l. HasLiteral ((2 * n + 1) ∷ []) (l / 2)) (2 * n ∷ []) ((0, omega arith, (let half : (2 * n + 1) / 2 ≡ (2 * n) / 2 = omega arith in half)), tt), tt);
+            count = omega arith;
+            literals = omega arith;
+          };
         };
         edges = refl;
+        few = omega arith;
+        short = omega arith;
       }
 
   begun_later : f.made ≢ 0 → IsBegun (later_draft f n)
@@ -64,8 +76,12 @@ module _ (s : System) (c : IsCircuit s) (f : Frames) (top n : ℕ) (kept : IsKep
       next = omega arith;
       same = λ q. record { net = refl; lits = refl; clauses = refl };
       covers = λ v lo hi. absurd (omega arith);
+      fresh = All-nil (λ l. (n ≤ l / 2) × (l / 2 < n));
+      clauses = adds_none (before f n) (later_draft f n) 1 refl;
     };
     edges = refl;
+    few = omega arith;
+    short = omega arith;
   }
 
   pub begun : IsBegun (draft_of f n)
@@ -94,6 +110,7 @@ module _ (s : System) (c : IsCircuit s) (f : Frames) (top n : ℕ) (kept : IsKep
     ready = inputs_drawn.ready;
     grows = Grows-refl ins.draft s.parts.latches;
     kept = refl;
+    quiet = refl;
     count = kept.latches (omega arith) ∙ c.wired.nexts;
     within = All-longer (length f.net) (length ins.draft.net) f.latches (length-longer (before f n) ins.draft to_inputs.longer) (kept.within (omega arith));
   }
@@ -123,3 +140,9 @@ module _ (s : System) (c : IsCircuit s) (f : Frames) (top n : ℕ) (kept : IsKep
 
   pub all_drawn : Grows (before f n) (rebuilt_draft s f n) (most_of s)
   all_drawn = Grows-trans (before f n) ls.draft (rebuilt_draft s f n) (1 + s.parts.inputs + s.parts.latches) (count_by is_gate s.parts.nodes) to_latches nodes_drawn.grows
+
+  -- a clause at most before the gates
+  pub begun_few : (length ls.draft.clauses ≤ 1) × (sum_by (λ (c : List ℕ). length c) ls.draft.clauses ≤ 1)
+  begun_few =
+      let e : ls.draft.clauses ≡ (draft_of f n).clauses = latches_drawn.quiet ∙ inputs_drawn.quiet in
+      subst (λ (cs : List (List ℕ)). (length cs ≤ 1) × (sum_by (λ (c : List ℕ). length c) cs ≤ 1)) (sym e) (begun.few, begun.short)

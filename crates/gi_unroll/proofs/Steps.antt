@@ -1,9 +1,9 @@
 use Rattle.std.proofs.Common.{◌≡◌, ℕ, zero, suc, ◌+◌, ◌*◌, ◌/◌, ◌%◌, ◌<◌, ◌≤◌, Bool, true, false, cond, Option, Some, None, List, [], ◌∷◌, ◌++◌, length, get_or, take, drop, refl, sym, ap, ◌∙◌, subst, arith, inl, inr, length-append, append_assoc}
-use Rattle.std.specs.Prelude.{◌==◌, Result, Ok, Err, OnErr}
+use Rattle.std.specs.Prelude.{◌==◌, nat_lt, Result, Ok, Err, OnErr}
 use Rattle.std.specs.List.{All, fold, count_by, sum_by}
 use Rattle.std.proofs.lemmas.Bool.{cases_lt, cases_eq, eq-eqb, ne_eqb}
 use Rattle.std.proofs.lemmas.List.{append-nil, get_or_append_left, get_or_push, get_or-take, length-take-le, take_more, take-append-drop}
-use Rattle.std.proofs.lemmas.List.Elements.{All-push, All-nil, All-weaker}
+use Rattle.std.proofs.lemmas.List.Elements.{All-append, All-cons, All-from_recursion, All-push, All-nil, All-weaker}
 use Rattle.std.proofs.lemmas.List.Sums.{sum_by-append}
 use Rattle.gi_lit.specs.Literals.{opposite}
 use Rattle.gi_lit.proofs.Literals.{var-opposite}
@@ -13,7 +13,7 @@ use Rattle.gi_circuit.specs.Nodes.{IsPlaced, IsOrdered, is_gate, folded, gate_fr
 use Rattle.gi_circuit.specs.Frames.{edge_of, gate_clauses, lit_of, Draft, with_choice, with_made, with_gate, with_node, Along, choice_along, input_along, reset_along}
 use Rattle.gi_circuit.specs.declared.node.Node.{Node}
 use Rattle.gi_circuit.specs.declared.node.Node.TheVariants.{Input, Latch, Gate}
-use Rattle.gi_circuit.proofs.Gates.{and_in-folded, and_in-gate, edge_fits}
+use Rattle.gi_circuit.proofs.Gates.{a_pair, and_in-folded, and_in-gate, edge_fits}
 use Rattle.gi_circuit.proofs.Meaning.{folded_within}
 use Rattle.gi_circuit.proofs.Wiring.{and_in-more, and_in-same}
 use Rattle.gi_unroll.specs.Steps.{IsReady, HasEdges, IsLonger, IsSame, HasLiteral, along, defined}
@@ -43,6 +43,36 @@ HasLiteral-more xs ys v h =
 HasLiteral-last : (xs : List ℕ) (n v : ℕ) → n ≡ v → HasLiteral (xs ++ 2 * n ∷ []) v
 HasLiteral-last xs n v e = (length xs, omega (arith, length-append xs (2 * n ∷ [])), ap (λ z. z / 2) (get_or_push xs (2 * n) 0 (length xs) refl) ∙ omega (arith, e))
 
+-- the literal of an edge is of a variable that has one
+pub lit_known : (lits : List ℕ) (e : ℕ) → e / 2 < length lits → HasLiteral lits (lit_of lits e / 2)
+lit_known lits e lt = go (e % 2 == 0)
+  where
+    go : (t : Bool) → HasLiteral lits (cond t (get_or lits (e / 2) 0) (opposite (get_or lits (e / 2) 0)) / 2)
+    go true = (e / 2, lt, refl)
+    go false = (e / 2, lt, sym (var-opposite (get_or lits (e / 2) 0)))
+
+-- clauses that were put behind those there were: of variables that have a literal, and three at most with seven literals for each of so many gates
+pub record AddsClauses (d e : Draft) (gates : ℕ) : Type 0 where
+  pub more : List (List ℕ)
+  pub are : e.clauses ≡ d.clauses ++ more
+  pub known : All (All (λ l. HasLiteral e.lits (l / 2))) more
+  pub count : length more ≤ 3 * gates
+  pub literals : sum_by (λ (c : List ℕ). length c) more ≤ 7 * gates
+
+pub adds_none : (d e : Draft) (gates : ℕ) → e.clauses ≡ d.clauses → AddsClauses d e gates
+adds_none d e gates q = record { more = []; are = q ∙ sym (append-nil d.clauses); known = All-nil (All (λ l. HasLiteral e.lits (l / 2))); count = omega arith; literals = omega arith }
+
+adds_trans : (d e f : Draft) (n m : ℕ) → IsLonger e f → AddsClauses d e n → AddsClauses e f m → AddsClauses d f (n + m)
+adds_trans d e f n m l x y =
+    let stays : (v : ℕ) → HasLiteral e.lits v → HasLiteral f.lits v = λ (v : ℕ) (h : HasLiteral e.lits v). subst (λ (z : List ℕ). HasLiteral z v) (sym l.lits.1) (HasLiteral-more e.lits l.lits.0 v h) in
+    record {
+      more = x.more ++ y.more;
+      are = y.are ∙ ap (λ z. z ++ y.more) x.are ∙ append_assoc d.clauses x.more y.more;
+      known = All-append (All (λ l. HasLiteral f.lits (l / 2))) x.more y.more (λ k z lt i w il. stays (get_or (get_or x.more k z) i w / 2) (x.known k z lt i w il)) y.known;
+      count = omega (arith, x.count, y.count, length-append x.more y.more);
+      literals = omega (arith, x.literals, y.literals, sum_by-append (λ (c : List ℕ). length c) x.more y.more);
+    }
+
 -- what grows takes at most so many variables, each for a literal, and makes nothing without one
 pub record Grows (d e : Draft) (taken : ℕ) : Type 0 where
   pub longer : IsLonger d e
@@ -50,11 +80,23 @@ pub record Grows (d e : Draft) (taken : ℕ) : Type 0 where
   pub next : e.next ≤ d.next + taken
   pub same : e.next ≡ d.next → IsSame d e
   pub covers : (v : ℕ) → d.next ≤ v → v < e.next → HasLiteral e.lits v
+  pub fresh : All (λ l. (d.next ≤ l / 2) × (l / 2 < e.next)) longer.lits.0
+  pub clauses : AddsClauses d e taken
 
 pub Grows-refl : (d : Draft) (taken : ℕ) → Grows d d taken
-Grows-refl d taken = record { longer = IsLonger-refl d; from = omega arith; next = omega arith; same = λ e. record { net = refl; lits = refl; clauses = refl }; covers = λ v a b. absurd (omega arith) }
+unfolding IsLonger-refl
+Grows-refl d taken = record {
+  longer = IsLonger-refl d;
+  from = omega arith;
+  next = omega arith;
+  same = λ e. record { net = refl; lits = refl; clauses = refl };
+  covers = λ v a b. absurd (omega arith);
+  fresh = All-nil (λ l. (d.next ≤ l / 2) × (l / 2 < d.next));
+  clauses = adds_none d d taken refl;
+}
 
 pub Grows-trans : (d e f : Draft) (n m : ℕ) → Grows d e n → Grows e f m → Grows d f (n + m)
+unfolding IsLonger-trans
 Grows-trans d e f n m g h =
     let a = g.from in
     let b = h.from in
@@ -69,10 +111,18 @@ Grows-trans d e f n m g h =
         | inl below ↦ subst (λ (z : List ℕ). HasLiteral z v) (sym h.longer.lits.1) (HasLiteral-more e.lits h.longer.lits.0 v (g.covers v lo below))
         | inr ge ↦ h.covers v ge hi
       ];
+      fresh = All-append (λ l. (d.next ≤ l / 2) × (l / 2 < f.next)) g.longer.lits.0 h.longer.lits.0
+          (λ k y lt. let r = g.fresh k y lt in (r.0, (let w = r.1 in omega arith)))
+          (λ k y lt. let r = h.fresh k y lt in ((let w = r.0 in omega arith), r.1));
+      clauses = adds_trans d e f n m h.longer g.clauses h.clauses;
     }
 
 pub Grows-more : (d e : Draft) (n m : ℕ) → n ≡ m → Grows d e n → Grows d e m
 Grows-more d e n m q g = subst (λ (z : ℕ). Grows d e z) q g
+
+-- the literal of the variable that comes next
+last_fresh : (d : Draft) → All (λ l. (d.next ≤ l / 2) × (l / 2 < d.next + 1)) (2 * d.next ∷ [])
+last_fresh d = All-cons (λ l. (d.next ≤ l / 2) × (l / 2 < d.next + 1)) (2 * d.next) [] (omega arith, omega arith) (All-nil (λ l. (d.next ≤ l / 2) × (l / 2 < d.next + 1)))
 
 -- a choice
 pub Grows-choice : (d : Draft) → Grows d (with_choice d) 1
@@ -82,6 +132,8 @@ Grows-choice d = record {
   next = omega arith;
   same = λ e. absurd (omega arith);
   covers = λ v lo hi. HasLiteral-last d.lits d.next v (omega arith);
+  fresh = last_fresh d;
+  clauses = adds_none d (with_choice d) 1 refl;
 }
 
 pub IsReady-choice : (d : Draft) → IsReady d → IsReady (with_choice d)
@@ -95,11 +147,12 @@ pub record AreEdges (first : Draft) (n : ℕ) (a : Along) : Type 0 where
   pub ready : IsReady a.draft
   pub grows : Grows first a.draft n
   pub kept : a.draft.edges ≡ first.edges
+  pub quiet : a.draft.clauses ≡ first.clauses
   pub count : length a.edges ≡ n
   pub within : All (λ e. e / 2 ≤ length a.draft.net) a.edges
 
 pub AreEdges-none : (d : Draft) → IsReady d → AreEdges d 0 (along d [])
-AreEdges-none d r = record { ready = r; grows = Grows-refl d 0; kept = refl; count = refl; within = All-nil (λ e. e / 2 ≤ length d.net) }
+AreEdges-none d r = record { ready = r; grows = Grows-refl d 0; kept = refl; quiet = refl; count = refl; within = All-nil (λ e. e / 2 ≤ length d.net) }
 
 pub AreEdges-choice : (first : Draft) (n : ℕ) (a : Along) → AreEdges first n a → AreEdges first (n + 1) (choice_along a)
 AreEdges-choice first n a h =
@@ -108,6 +161,7 @@ AreEdges-choice first n a h =
       ready = IsReady-choice a.draft h.ready;
       grows = Grows-trans first a.draft (with_choice a.draft) n 1 h.grows (Grows-choice a.draft);
       kept = h.kept;
+      quiet = h.quiet;
       count = omega (arith, h.count, length-append a.edges (2 * (length a.draft.net + 1) ∷ []));
       within = All-push (λ e. e / 2 ≤ length (a.draft.net ++ Input a.draft.choices ∷ [])) a.edges (2 * (length a.draft.net + 1)) (All-longer (length a.draft.net) (length (a.draft.net ++ Input a.draft.choices ∷ [])) a.edges (omega (arith, l)) h.within) (omega (arith, l));
     }
@@ -117,6 +171,7 @@ constant_along first n a e z h = record {
   ready = h.ready;
   grows = Grows-trans first a.draft a.draft n 1 h.grows (Grows-refl a.draft 1);
   kept = h.kept;
+  quiet = h.quiet;
   count = omega (arith, h.count, length-append a.edges (e ∷ []));
   within = All-push (λ e. e / 2 ≤ length a.draft.net) a.edges e h.within (omega (arith, z));
 }
@@ -157,6 +212,8 @@ put_more n d e taken r h le = record {
     next = omega arith;
     same = λ e. record { net = refl; lits = refl; clauses = refl };
     covers = λ v lo hi. absurd (omega arith);
+    fresh = All-nil (λ l. (d.next ≤ l / 2) × (l / 2 < d.next));
+    clauses = adds_none d (record d { edges = d.edges ++ e ∷ [] }) taken refl;
   };
   edges = record { count = omega (arith, h.count, length-append d.edges (e ∷ [])); within = All-push (λ e. e / 2 ≤ length d.net) d.edges e h.within le };
 }
@@ -185,8 +242,41 @@ gate_grown d a b = record {
 pub gate_new : (d : Draft) (a b : ℕ) → and_in d.net a b ≡ record { nodes = d.net ++ Gate (pair_of a b).low (pair_of a b).high ∷ []; edge = 2 * (length d.net + 1) } → with_gate d a b ≡ gate_grown d a b
 gate_new d a b m = ap (with_made d a b) m ∙ ap (λ t. cond t (record d { edges = d.edges ++ 2 * (length d.net + 1) ∷ [] }) (gate_grown d a b)) (ne_eqb (length (d.net ++ Gate (pair_of a b).low (pair_of a b).high ∷ [])) (length d.net) (λ e. omega (arith, e, length-append d.net (Gate (pair_of a b).low (pair_of a b).high ∷ []))))
 
-grown_more : (n : ℕ) (d : Draft) (a b : ℕ) → IsReady d → HasEdges n d → NodeMore n d (gate_grown d a b) 1
-grown_more n d a b r h =
+-- the edges of a pair are those of which it was made
+pair_fits : (a b n : ℕ) → a / 2 ≤ n → b / 2 ≤ n → ((pair_of a b).low / 2 ≤ n) × ((pair_of a b).high / 2 ≤ n)
+pair_fits a b n al bl = go (nat_lt a b)
+  where
+    go : (t : Bool) → ((cond t (a_pair a b) (a_pair b a)).low / 2 ≤ n) × ((cond t (a_pair a b) (a_pair b a)).high / 2 ≤ n)
+    go true = (al, bl)
+    go false = (bl, al)
+
+-- the clauses of a new gate
+gate_adds : (d : Draft) (a b : ℕ) → IsReady d → a / 2 ≤ length d.net → b / 2 ≤ length d.net → AddsClauses d (gate_grown d a b) 1
+gate_adds d a b r al bl =
+    let p = pair_fits a b (length d.net) al bl in
+    let p0 = p.0 in
+    let p1 = p.1 in
+    let Has : ℕ → Type 0 = λ (l : ℕ). HasLiteral (d.lits ++ 2 * d.next ∷ []) (l / 2) in
+    let hx : Has (2 * d.next) = HasLiteral-last d.lits d.next ((2 * d.next) / 2) (omega arith) in
+    let hy : Has (lit_of d.lits (pair_of a b).low) = HasLiteral-more d.lits (2 * d.next ∷ []) (lit_of d.lits (pair_of a b).low / 2) (lit_known d.lits (pair_of a b).low (omega (arith, r.count))) in
+    let hz : Has (lit_of d.lits (pair_of a b).high) = HasLiteral-more d.lits (2 * d.next ∷ []) (lit_of d.lits (pair_of a b).high / 2) (lit_known d.lits (pair_of a b).high (omega (arith, r.count))) in
+    let other : (l : ℕ) → Has l → Has (opposite l) = λ (l : ℕ) (h : Has l). subst (HasLiteral (d.lits ++ 2 * d.next ∷ [])) (sym (var-opposite l)) h in
+    record {
+      more = gate_clauses (2 * d.next) (lit_of d.lits (pair_of a b).low) (lit_of d.lits (pair_of a b).high);
+      are = refl;
+      known = All-from_recursion (All Has) (gate_clauses (2 * d.next) (lit_of d.lits (pair_of a b).low) (lit_of d.lits (pair_of a b).high)) (
+        All-from_recursion Has (opposite (2 * d.next) ∷ lit_of d.lits (pair_of a b).low ∷ []) (other (2 * d.next) hx, (hy, tt)),
+        (
+          All-from_recursion Has (opposite (2 * d.next) ∷ lit_of d.lits (pair_of a b).high ∷ []) (other (2 * d.next) hx, (hz, tt)),
+          (All-from_recursion Has (2 * d.next ∷ opposite (lit_of d.lits (pair_of a b).low) ∷ opposite (lit_of d.lits (pair_of a b).high) ∷ []) (hx, (other (lit_of d.lits (pair_of a b).low) hy, (other (lit_of d.lits (pair_of a b).high) hz, tt))), tt),
+        ),
+      );
+      count = omega arith;
+      literals = omega arith;
+    }
+
+grown_more : (n : ℕ) (d : Draft) (a b : ℕ) → IsReady d → HasEdges n d → a / 2 ≤ length d.net → b / 2 ≤ length d.net → NodeMore n d (gate_grown d a b) 1
+grown_more n d a b r h al bl =
     let l = length-append d.net (Gate (pair_of a b).low (pair_of a b).high ∷ []) in
     record {
       ready = record { count = omega (arith, r.count, length-append d.lits (2 * d.next ∷ []), l); fits = omega (arith, r.fits, length-append d.lits (2 * d.next ∷ [])) };
@@ -196,6 +286,8 @@ grown_more n d a b r h =
         next = omega arith;
         same = λ e. absurd (omega arith);
         covers = λ v lo hi. HasLiteral-last d.lits d.next v (omega arith);
+        fresh = last_fresh d;
+        clauses = gate_adds d a b r al bl;
       };
       edges = record {
         count = omega (arith, h.count, length-append d.edges (2 * (length d.net + 1) ∷ []));
@@ -213,7 +305,7 @@ gate_more n d a b r h al bl = go (folded a b) refl
         subst (λ (e : Draft). NodeMore n d e 1) (sym (gate_there d a b (2 * k) m)) (put_more n d (2 * k) 1 r h (omega (arith, k_fits)))
     gate None f g =
         let m : and_in d.net a b ≡ record { nodes = d.net ++ Gate (pair_of a b).low (pair_of a b).high ∷ []; edge = 2 * (length d.net + 1) } = and_in-gate d.net a b f ∙ ap (gate_in d.net (pair_of a b).low (pair_of a b).high) g in
-        subst (λ (e : Draft). NodeMore n d e 1) (sym (gate_new d a b m)) (grown_more n d a b r h)
+        subst (λ (e : Draft). NodeMore n d e 1) (sym (gate_new d a b m)) (grown_more n d a b r h al bl)
 
     go : (o : Option ℕ) → folded a b ≡ o → NodeMore n d (with_gate d a b) 1
     go (Some e) f = subst (λ (z : Draft). NodeMore n d z 1) (sym (gate_there d a b e (and_in-folded d.net a b e f))) (put_more n d e 1 r h (folded_within a b e (length d.net) al bl f))

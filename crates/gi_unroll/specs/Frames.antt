@@ -1,5 +1,5 @@
 -- Frames of a circuit one after another.
-use Rattle.std.specs.Prelude.{◌≡◌, ℕ, ◌+◌, ◌-◌, ◌/◌, ◌<◌, ◌≤◌, ◌==◌, if◌then◌else◌, Bool, false, List, [], ◌++◌, length, count_by, slice_index, slice_index_or, All}
+use Rattle.std.specs.Prelude.{◌≡◌, ℕ, ◌+◌, ◌-◌, ◌*◌, ◌/◌, ◌<◌, ◌≤◌, ◌⊎◌, ◌==◌, if◌then◌else◌, Bool, false, List, [], ◌++◌, length, count_by, sum_by, slice_index, slice_index_or, All}
 use Rattle.gi_lit.specs.Truth.{true_in, Satisfies}
 use Rattle.gi_circuit.specs.Nodes.{is_gate}
 use Rattle.gi_circuit.specs.Systems.{System, latch_values}
@@ -62,3 +62,21 @@ KeepsEncoding u n = (earlier : List (List ℕ)) → IsUnrolled u.system earlier 
 pub record KeepsLiterals (u : Unrolled) (n : ℕ) : Type 0 where
   pub taken : (v : ℕ) → n ≤ v → v < n + (frame_of u.system u.frames n).fresh → HasLiteral (frame_of u.system u.frames n).frames.lits v
   pub stay : (more : List ℕ) × ((frame_of u.system u.frames n).frames.lits ≡ u.frames.lits ++ more)
+
+-- a variable that the new frame takes, or that a literal of the frames before has
+abbrev pub IsNamed : Unrolled → ℕ → ℕ → Type 0
+IsNamed u n v = ((n ≤ v) × (v < n + (frame_of u.system u.frames n).fresh)) ⊎ HasLiteral u.frames.lits v
+
+-- each literal of the new frame is of such a variable
+pub record NamesVariables (u : Unrolled) (n : ℕ) : Type 0 where
+  pub clauses : All (All (λ l. IsNamed u n (l / 2))) (frame_of u.system u.frames n).added
+  pub inputs : All (λ l. IsNamed u n (l / 2)) (frame_of u.system u.frames n).inputs
+  pub latches : All (λ l. IsNamed u n (l / 2)) (frame_of u.system u.frames n).latches
+  pub outs : All (λ l. IsNamed u n (l / 2)) (frame_of u.system u.frames n).outs
+  pub bads : All (λ l. IsNamed u n (l / 2)) (frame_of u.system u.frames n).bads
+  pub cons : All (λ l. IsNamed u n (l / 2)) (frame_of u.system u.frames n).cons
+
+-- a clause at most for the constant, and three with seven literals for each gate of the circuit
+pub record IsShort (s : System) (added : List (List ℕ)) : Type 0 where
+  pub clauses : length added ≤ 1 + 3 * count_by is_gate s.parts.nodes
+  pub literals : sum_by (λ (c : List ℕ). length c) added ≤ 1 + 7 * count_by is_gate s.parts.nodes

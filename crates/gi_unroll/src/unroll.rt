@@ -2,7 +2,7 @@ ghost use Rattle.std.specs.Prelude.{◌≡◌, ◌+◌, ◌-◌, ◌/◌, ◌<�
 ghost use Rattle.gi_circuit.specs.Systems.{System};
 ghost use Rattle.gi_circuit.specs.Frames.{frame_of};
 ghost use Rattle.gi_circuit.specs.Encoding.{IsUnrolled};
-ghost use Rattle.gi_unroll.specs.Frames.{Unrolled, unrolled, most_of, IsFrame, with_frame, top_after, KeepsEncoding, KeepsLiterals};
+ghost use Rattle.gi_unroll.specs.Frames.{Unrolled, unrolled, most_of, IsFrame, with_frame, top_after, KeepsEncoding, KeepsLiterals, NamesVariables, IsShort};
 
 use crate::builder::Builder;
 use crate::extend::{Extended, extend};
@@ -71,7 +71,9 @@ impl Unroll {
     }
 
     /// The next frame. Its variables begin at `next_var`, which must be above `top` and leave room for
-    /// `bound` variables up to `MAX_VAR`. After an error all is as before.
+    /// `bound` variables up to `MAX_VAR`. Its literals are of these variables and of those that earlier frames
+    /// took. It has at most one clause more than three for each gate of the circuit. After an error, which is
+    /// want of memory, all is as before.
     pub fn frame(&mut self, next_var: u32) -> Result<Frame, AllocError>
         requires above { self.old.top < next_var }
         requires room { next_var + most_of self.old.system ≤ 1048577 }
@@ -80,6 +82,8 @@ impl Unroll {
         ensures unrolled { OnOk result (self.new ≡ with_frame self.old next_var) }
         ensures encodes { OnOk result (KeepsEncoding self.old next_var) }
         ensures literals { OnOk result (KeepsLiterals self.old next_var) }
+        ensures names { OnOk result (NamesVariables self.old next_var) }
+        ensures short { IfOk result (λ r. IsShort self.old.system r.added) }
         ensures fresh { IfOk result (λ r. r.fresh ≤ most_of self.old.system) }
         ensures err { OnErr result (self.new ≡ self.old) }
     {
