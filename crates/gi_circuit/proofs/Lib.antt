@@ -5,3 +5,7 @@ pub mod Again
 pub mod Wiring
 pub mod Ordering
 pub mod Importing
+pub mod Goodness
+pub mod Holding
+pub mod Ranking
+pub mod Files

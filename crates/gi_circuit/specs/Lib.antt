@@ -6,3 +6,5 @@ pub mod Frames
 pub mod Encoding
 pub mod Import
 pub mod Order
+pub mod Importable
+pub mod Files

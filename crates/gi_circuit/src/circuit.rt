@@ -1,7 +1,8 @@
 ghost use Rattle.std.specs.Prelude.{◌≡◌, ◌+◌, ◌/◌, ◌^◌, ◌<◌, ◌≤◌, ◌∷◌, ◌++◌, [], length, slice_set, count_by, ℕ, List, All, IfOk, OnOk, OnErr};
 ghost use Rattle.gi_circuit.specs.Nodes.{Parts, node_values, and_in, is_gate, IsMade, next_edge};
-ghost use Rattle.gi_circuit.specs.Import.{AreApart, IsAcyclic, AreLevels, IsByLevel, var_at, system_of};
-ghost use Rattle.gi_circuit.specs.Systems.{System, empty_system, IsCircuit, input_added, latch_added};
+ghost use Rattle.gi_circuit.specs.Import.{AreLevels, IsByLevel, system_of};
+ghost use Rattle.gi_circuit.specs.Importable.{IsImportable};
+ghost use Rattle.gi_circuit.specs.Systems.{empty_system, IsCircuit, input_added, latch_added};
 
 use crate::import::Importer;
 use crate::net::Net;
@@ -27,7 +28,6 @@ pub struct Circuit {
 }
 
 impl Model for Circuit {
-    ghost use Rattle.gi_circuit.specs.Import.{AreApart, IsAcyclic, AreLevels, IsByLevel, var_at, system_of};
     ghost use Rattle.gi_circuit.specs.Systems.{System, IsWired};
 
     ghost Value = { System };
@@ -247,15 +247,10 @@ impl Circuit {
     /// The circuit that an AIGER file says: inputs and latches in order, and then the gates by level and, within
     /// a level, in order. The level of a gate is one more than the greater level of its operands, and that of
     /// inputs, latches and constants is 0. A variable that nothing defines is false. There must be no cycle of
-    /// gates, no variable that two gates define, and none above `max`.
+    /// gates, no variable that two gates define, none above `max`, and fewer than 2^31 inputs, latches and gates:
+    /// so it is for each value that a file says (`good_is_importable`).
     pub fn from_aig(alloc: Global, aig: &Aig) -> Result<Circuit, AllocError>
-        requires room { length aig.now.inputs + length aig.now.latches + length aig.now.gates < 2 ^ 31 }
-        requires outs { length aig.now.outs < 2 ^ 32 }
-        requires bads { length aig.now.bads < 2 ^ 32 }
-        requires cons { length aig.now.cons < 2 ^ 32 }
-        requires within { (k : ℕ) → k < length aig.now.gates → var_at aig.now.gates k ≤ aig.now.max }
-        requires apart { AreApart aig.now.gates }
-        requires acyclic { IsAcyclic aig.now.gates }
+        requires { IsImportable aig.now }
         ensures { IfOk result (λ c. (level : ℕ → ℕ) × AreLevels aig.now.gates level × ((ranks : List (ℕ × ℕ)) × IsByLevel aig.now.gates level ranks × (c ≡ system_of aig.now ranks))) }
     {
         let gates = aig.gates.as_slice();

@@ -13,7 +13,9 @@ mod tests;
 mod values;
 
 pub use circuit::{Circuit, Counts};
-pub use laws::{conjunctions_have_their_values, pairs_come_again};
+pub use laws::{
+    circuits_mean_their_files, conjunctions_have_their_values, good_is_importable, pairs_come_again,
+};
 pub use net::{Net, Size};
 pub use node::Node;
 pub use values::Values;

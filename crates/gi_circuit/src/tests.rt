@@ -1,8 +1,8 @@
-ghost use Rattle.std.specs.Prelude.{◌≡◌, ◌≢◌, ◌/◌, ◌<◌, ◌≤◌, ℕ, length, IsTrue};
-ghost use Rattle.gi_circuit.specs.Import.{AreApart, IsAcyclic, gate_at, var_at};
+ghost use Rattle.std.specs.Prelude.{IfOk};
+ghost use Rattle.gi_circuit.specs.Importable.{IsImportable};
 
-use crate::{Circuit, Counts, Node};
-use gi_aiger::{Aig, AigRead, AigReader, AndGate, Reset};
+use crate::{Circuit, Counts, Node, good_is_importable};
+use gi_aiger::{Aig, AigRead, AigReader, Reset, said_is_good};
 use gi_lit::Edge;
 use std::alloc::{AllocError, Global};
 use std::test::Fail;
@@ -108,7 +108,11 @@ fn gates_are_folded_found_and_evaluated(rt: HostRuntime) -> Result<(), Fail> {
 }
 
 /// What a file says.
-fn read(alloc: Global, file: &str) -> Result<Aig, Fail> {
+fn read(alloc: Global, file: &str) -> Result<Aig, Fail>
+    ensures { IfOk result IsImportable }
+{
+    said_is_good();
+    good_is_importable();
     let mut reader = AigReader::new(alloc);
     reader.feed(file.as_bytes())?;
     match reader.finish() {
@@ -118,54 +122,10 @@ fn read(alloc: Global, file: &str) -> Result<Aig, Fail> {
     }
 }
 
-/// Whether a gate's variable is at most `max`, above those of its operands, and of no gate before it.
-fn is_plain(gates: &[AndGate], place: usize, max: u32) -> bool
-    requires { place < length gates.now }
-    ensures within { IsTrue result → var_at gates.now place ≤ max }
-    ensures left { IsTrue result → (gate_at gates.now place).rhs0 / 2 < var_at gates.now place }
-    ensures right { IsTrue result → (gate_at gates.now place).rhs1 / 2 < var_at gates.now place }
-    ensures apart { IsTrue result → (k : ℕ) → k < place → var_at gates.now k ≢ var_at gates.now place }
-{
-    let gate = gates[place];
-    let v = gate.lhs.node();
-    if v > max || gate.rhs0.node() >= v || gate.rhs1.node() >= v {
-        return false;
-    }
-    for k in 0..place {
-        let other = gates[k];
-        if other.lhs.node() == v {
-            return false;
-        }
-    }
-    true
-}
-
-/// Whether all gates are so.
-fn are_plain(gates: &[AndGate], max: u32) -> bool
-    ensures within { IsTrue result → (k : ℕ) → k < length gates.now → var_at gates.now k ≤ max }
-    ensures apart { IsTrue result → AreApart gates.now }
-    ensures acyclic { IsTrue result → IsAcyclic gates.now }
-{
-    for place in 0..gates.len() {
-        if !is_plain(gates, place, max) {
-            return false;
-        }
-    }
-    true
-}
-
-/// The circuit of a small file with plain gates.
-fn circuit_of(alloc: Global, aig: &Aig) -> Result<Circuit, Fail> {
-    if !are_plain(aig.gates.as_slice(), aig.max) {
-        return Err("plain gates".into());
-    }
-    if aig.inputs.len() > 9 || aig.latches.len() > 9 || aig.gates.len() > 9 {
-        return Err("a small file".into());
-    }
-    if aig.outs.len() > 9 || aig.bads.len() > 9 || aig.cons.len() > 9 {
-        return Err("a small file".into());
-    }
-    Ok(Circuit::from_aig(alloc, aig)?)
+/// The circuit of a file.
+fn circuit_of(alloc: Global, file: &str) -> Result<Circuit, Fail> {
+    let aig = read(alloc, file)?;
+    Ok(Circuit::from_aig(alloc, &aig)?)
 }
 
 /// Two numbers for each node: 0 and the place of an input, 1 and that of a latch, or the edges of a gate.
@@ -232,7 +192,7 @@ fn circuits_of_files(rt: HostRuntime) -> Result<(), Fail> {
             [6, 7].as_slice(),
         ),
     ] {
-        let c = circuit_of(rt.alloc(), &read(rt.alloc(), file)?)?;
+        let c = circuit_of(rt.alloc(), file)?;
         let made = nodes(rt.alloc(), &c)?;
         assert_eq!(rt; made.as_slice(), expected_nodes, "at {file}");
         let named = edges(rt.alloc(), &c)?;
@@ -244,8 +204,7 @@ fn circuits_of_files(rt: HostRuntime) -> Result<(), Fail> {
 /// A latch has its file's reset, and keeps its value until it is given a next state.
 #[test]
 fn resets_and_next_states(rt: HostRuntime) -> Result<(), Fail> {
-    let file = read(rt.alloc(), "aag 3 0 3 0 0\n2 2\n4 4 1\n6 6 6\n")?;
-    let mut c = circuit_of(rt.alloc(), &file)?;
+    let mut c = circuit_of(rt.alloc(), "aag 3 0 3 0 0\n2 2\n4 4 1\n6 6 6\n")?;
     assert_eq!(rt;
         c.resets(),
         [Reset::Zero, Reset::One, Reset::Free].as_slice()

@@ -1,0 +1,19 @@
+-- Values that can be made circuits of.
+use Rattle.std.specs.Prelude.{ℕ, ◌+◌, ◌^◌, ◌<◌, ◌≤◌, length}
+use Rattle.gi_aiger.specs.declared.aig.Aig.{Aig}
+use Rattle.gi_aiger.specs.Good.{IsGood}
+use Rattle.gi_circuit.specs.Import.{var_at, AreApart, IsAcyclic}
+
+-- all that `from_aig` requires of a value
+pub record IsImportable (v : Aig) : Type 0 where
+  pub room : length v.inputs + length v.latches + length v.gates < 2 ^ 31
+  pub outs : length v.outs < 2 ^ 32
+  pub bads : length v.bads < 2 ^ 32
+  pub cons : length v.cons < 2 ^ 32
+  pub within : (k : ℕ) → k < length v.gates → var_at v.gates k ≤ v.max
+  pub apart : AreApart v.gates
+  pub acyclic : IsAcyclic v.gates
+
+-- each value that some file says has it
+abbrev pub GoodIsImportable : Type 0
+GoodIsImportable = (v : Aig) → IsGood v → IsImportable v
