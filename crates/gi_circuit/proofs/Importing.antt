@@ -1,4 +1,4 @@
-use Rattle.std.proofs.Common.{◌≡◌, ℕ, zero, suc, ◌+◌, ◌*◌, ◌/◌, ◌%◌, ◌<◌, ◌≤◌, Bool, true, false, cond, List, [], ◌∷◌, ◌++◌, length, get_or, set, take, refl, sym, ap, ◌∙◌, subst, arith, ◌⊎◌, inl, inr, length-append}
+use Rattle.std.proofs.Common.{◌≡◌, ℕ, ◌+◌, ◌/◌, ◌%◌, ◌≤◌, Bool, true, false, cond, List, [], ◌∷◌, length, get_or, refl, ◌∙◌, arith, inl, inr, length-append}
 use Rattle.std.specs.Prelude.{◌==◌}
 use Rattle.std.specs.List.{All, fold}
 use Rattle.std.proofs.lemmas.Bool.{cases_lt}
@@ -7,7 +7,6 @@ use Rattle.gi_lit.specs.Literals.{opposite}
 use Rattle.gi_lit.proofs.Literals.{var-opposite}
 use Rattle.gi_aiger.specs.declared.aig.Latch.{Latch}
 use Rattle.gi_aiger.specs.declared.aig.AndGate.{AndGate}
-use Rattle.gi_circuit.specs.Nodes.{and_in}
 use Rattle.gi_circuit.specs.Frames.{edge_of}
 use Rattle.gi_circuit.specs.Import.{Imported, with_input_of, with_latch_of, with_gate_of, gate_at}
 use Rattle.gi_circuit.specs.declared.node.Node.TheVariants as nodes

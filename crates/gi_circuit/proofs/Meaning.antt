@@ -1,18 +1,17 @@
-use Rattle.std.proofs.Common.{◌≡◌, ◌≢◌, ℕ, zero, suc, ◌+◌, ◌-◌, ◌*◌, ◌/◌, ◌%◌, ◌<◌, ◌≤◌, Bool, true, false, not, cond, nat_eq, Option, Some, None, List, [], ◌∷◌, ◌++◌, length, take, drop, get_or, refl, sym, ap, ◌∙◌, subst, arith, ◌⊎◌, inl, inr, length-append, append_assoc}
+use Rattle.std.proofs.Common.{◌≡◌, ℕ, ◌+◌, ◌*◌, ◌/◌, ◌%◌, ◌<◌, ◌≤◌, Bool, true, false, not, cond, Option, Some, None, List, [], ◌∷◌, ◌++◌, length, take, drop, get_or, refl, sym, ap, ◌∙◌, subst, arith, inl, inr, length-append, append_assoc}
 use Rattle.std.specs.Prelude.{◌&&◌, ◌==◌, ◌||◌, nat_lt}
-use Rattle.std.specs.List.{slice_get, fold}
-use Rattle.std.proofs.lemmas.Bool.{cases_lt, cases_eq, cases_Bool, eqb-true, or_cases, cases_lt}
-use Rattle.std.proofs.lemmas.List.{get_or_append_left, get_or_push, get_or_default, length-take-le, append-nil, take_more, take-append-drop}
+use Rattle.std.specs.List.{slice_get}
+use Rattle.std.proofs.lemmas.Bool.{eqb-true, or_cases}
+use Rattle.std.proofs.lemmas.List.{length-take-le, append-nil, take_more, take-append-drop}
 use Rattle.std.proofs.lemmas.Option.{slice_get_within, get_or_from_slice_get}
-use Rattle.std.proofs.lemmas.List.Sums.{fold-append}
 use Rattle.gi_circuit.specs.Values.{value_in}
 use Rattle.gi_lit.specs.Literals.{opposite}
 use Rattle.gi_circuit.specs.Laws.{IsConjunction}
-use Rattle.gi_circuit.specs.Nodes.{Parts, value_of, node_values, IsPlaced, IsOrdered, gate_from, folded, Made, gate_in, and_in, pair_of}
+use Rattle.gi_circuit.specs.Nodes.{Parts, node_values, IsPlaced, IsOrdered, gate_from, folded, gate_in, and_in, pair_of}
 use Rattle.gi_circuit.specs.declared.node.Node.{Node}
-use Rattle.gi_circuit.specs.declared.node.Node.TheVariants.{Input, Latch, Gate}
-use Rattle.gi_circuit.proofs.Gates.{cond_some, cond_none, gate_found, and_in-folded, and_in-gate, length-node_values, folded_differ, a_pair}
-use Rattle.gi_circuit.proofs.Gates.{node_values-push, old_value, new_value}
+use Rattle.gi_circuit.specs.declared.node.Node.TheVariants.{Input, Gate}
+use Rattle.gi_circuit.proofs.Gates.{cond_some, gate_found, and_in-folded, and_in-gate, a_pair}
+use Rattle.gi_circuit.proofs.Gates.{old_value, new_value}
 
 pub value_in-zero : (vs : List Bool) → get_or vs 0 false ≡ false → value_in vs 0 ≡ false
 unfolding value_in

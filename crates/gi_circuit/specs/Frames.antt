@@ -1,6 +1,6 @@
 -- Frames: a circuit's gates at one time after another, as clauses. All frames share one hashed circuit whose inputs are the choices that the frames
 -- made: each frame's inputs, and the latches that are free at first.
-use Rattle.std.specs.Prelude.{◌≡◌, ℕ, zero, suc, ◌+◌, ◌-◌, ◌*◌, ◌/◌, ◌%◌, ◌==◌, if◌then◌else◌, List, [], ◌∷◌, ◌++◌, length, map, fold, slice_index}
+use Rattle.std.specs.Prelude.{ℕ, zero, suc, ◌+◌, ◌-◌, ◌*◌, ◌/◌, ◌%◌, ◌==◌, if◌then◌else◌, List, [], ◌∷◌, ◌++◌, length, map, fold, slice_index}
 use Rattle.gi_aiger.specs.declared.aig.Reset.{Reset}
 use Rattle.gi_aiger.specs.declared.aig.Reset.TheVariants.{Zero, One, Free}
 use Rattle.gi_lit.specs.Literals.{opposite}

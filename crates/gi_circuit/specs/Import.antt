@@ -1,5 +1,5 @@
 -- A circuit from what an AIGER file says: inputs and latches in order, then gates by level and place.
-use Rattle.std.specs.Prelude.{◌≡◌, ◌≢◌, ℕ, zero, suc, ◌+◌, ◌*◌, ◌/◌, ◌<◌, max, List, [], ◌∷◌, length, map, fold, replicate, slice_index, slice_index_or, slice_set}
+use Rattle.std.specs.Prelude.{◌≡◌, ◌≢◌, ℕ, suc, ◌+◌, ◌/◌, ◌<◌, max, List, [], ◌∷◌, length, map, fold, replicate, slice_index_or, slice_set}
 use Rattle.std.specs.List.Sorted.{IsPermutation, IsSorted}
 use Rattle.std.specs.Ordering.{nat_cmp, ordering_then}
 use Rattle.gi_aiger.specs.declared.aig.Aig.{Aig}

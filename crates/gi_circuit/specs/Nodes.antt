@@ -1,5 +1,5 @@
 -- The nodes of a circuit: inputs, latches and and-gates, numbered from 1 in the order of their making.
-use Rattle.std.specs.Prelude.{◌≡◌, ℕ, suc, ◌+◌, ◌*◌, ◌/◌, ◌^◌, ◌<◌, ◌≤◌, Bool, true, false, ◌&&◌, ◌||◌, ◌==◌, if◌then◌else◌, nat_lt, List, [], ◌∷◌, ◌++◌, Option, Some, None, length, take, fold, count_by, slice_index_or, slice_get}
+use Rattle.std.specs.Prelude.{◌≡◌, ℕ, suc, ◌+◌, ◌*◌, ◌/◌, ◌^◌, ◌<◌, ◌≤◌, Bool, true, false, ◌&&◌, ◌||◌, ◌==◌, if◌then◌else◌, nat_lt, List, [], ◌∷◌, ◌++◌, Option, Some, None, length, fold, count_by, slice_index_or, slice_get}
 use Rattle.gi_lit.specs.Literals.{opposite}
 use Rattle.gi_circuit.specs.Values.{value_in}
 use Rattle.gi_circuit.specs.declared.node.Pair.{Pair}

@@ -1,5 +1,5 @@
 -- How gates are put in order: by a table of the places of the gates that define variables.
-use Rattle.std.specs.Prelude.{◌≡◌, ℕ, suc, ◌+◌, ◌/◌, ◌<◌, ◌≤◌, if◌then◌else◌, nat_lt, List, [], ◌∷◌, length, slice_index}
+use Rattle.std.specs.Prelude.{◌≡◌, ℕ, suc, ◌+◌, ◌/◌, ◌<◌, if◌then◌else◌, nat_lt, List, [], ◌∷◌, length, slice_index}
 use Rattle.gi_aiger.specs.declared.aig.AndGate.{AndGate}
 use Rattle.gi_levels.specs.declared.levels.Node.{Node}
 use Rattle.gi_circuit.specs.Import.{var_at}

@@ -1,5 +1,5 @@
 -- The value of an edge.
-use Rattle.std.specs.Prelude.{◌≡◌, ℕ, ◌/◌, ◌%◌, Bool, false, not, ◌==◌, if◌then◌else◌, List, slice_index_or}
+use Rattle.std.specs.Prelude.{ℕ, ◌/◌, ◌%◌, Bool, false, not, ◌==◌, if◌then◌else◌, List, slice_index_or}
 
 -- the value of an edge, where node k has the value at place k
 unfoldable pub value_in : List Bool → ℕ → Bool

@@ -1,12 +1,10 @@
-use Rattle.std.proofs.Common.{◌≡◌, ℕ, ◌+◌, ◌<◌, List, length, map, get_or, sym, ap, ◌∙◌, subst, arith}
+use Rattle.std.proofs.Common.{◌≡◌, ℕ, List, length, map, sym, ap, ◌∙◌, subst}
 use Rattle.std.proofs.lemmas.List.{length-map}
-use Rattle.std.specs.List.Sorted.{IsPermutation, IsSorted}
-use Rattle.std.specs.Ordering.{nat_cmp, ordering_then}
-use Rattle.gi_aiger.specs.declared.aig.AndGate.{AndGate}
+use Rattle.std.specs.List.Sorted.{IsPermutation}
 use Rattle.gi_levels.specs.declared.levels.Node.{Node}
 use Rattle.gi_levels.specs.Found.{Answers}
 use Rattle.gi_levels.specs.Levels as levels
-use Rattle.gi_circuit.specs.Import.{AreLevels, IsByLevel, ranked_from}
+use Rattle.gi_circuit.specs.Import.{ranked_from}
 use Rattle.gi_circuit.specs.Order.{operands_in, ranks_from}
 use Rattle.gi_circuit.proofs.Ordering.{levels_there, levels_are, level_of, level_at, ranked_is, if_ok_two}
 use Rattle.gi_circuit.proofs.order.gates_by_level.Goals as goal

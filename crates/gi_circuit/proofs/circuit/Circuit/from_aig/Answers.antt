@@ -1,9 +1,8 @@
-use Rattle.std.proofs.Common.{◌≡◌, ℕ, ◌+◌, ◌<◌, List, length, get_or, sym, ap, ◌∙◌, subst, arith}
+use Rattle.std.proofs.Common.{◌≡◌, ℕ, ◌<◌, List, length, sym, ap, ◌∙◌, subst, arith}
 use Rattle.std.specs.List.{All, fold}
 use Rattle.std.proofs.lemmas.List.Sorted.{All-permutation, length_permutation}
 use Rattle.gi_aiger.specs.declared.aig.AndGate.{AndGate}
 use Rattle.gi_aiger.specs.declared.aig.Latch.{Latch}
-use Rattle.gi_circuit.specs.Systems.{System}
 use Rattle.gi_circuit.specs.Import.{Imported, imported_none, with_input_of, with_latch_of, with_gate_of, gate_at, AreLevels, IsByLevel, ranked_from, imported, finished, system_of}
 use Rattle.gi_circuit.proofs.Importing.{input_nodes, input_latches, latch_nodes, latch_latches, gate_latches}
 use Rattle.gi_circuit.proofs.Ordering.{ranks_within, length-ranked, if_ok_two}

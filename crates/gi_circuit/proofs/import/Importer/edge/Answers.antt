@@ -1,4 +1,4 @@
-use Rattle.std.proofs.Common.{◌≡◌, ◌/◌, ◌≤◌, arith}
+use Rattle.std.proofs.Common.{arith}
 use Rattle.gi_lit.proofs.Literals.{var-opposite}
 use Rattle.gi_circuit.proofs.import.Importer.edge.Goals as goal
 

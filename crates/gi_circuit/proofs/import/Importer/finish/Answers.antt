@@ -1,4 +1,4 @@
-use Rattle.std.proofs.Common.{◌≡◌, ℕ, ◌/◌, ◌≤◌, List, length, get_or, sym, subst}
+use Rattle.std.proofs.Common.{ℕ, ◌/◌, ◌≤◌, List, length, get_or, sym, subst}
 use Rattle.std.specs.List.{All}
 use Rattle.std.proofs.lemmas.List.Elements.{All-map}
 use Rattle.gi_aiger.specs.declared.aig.Latch.{Latch}

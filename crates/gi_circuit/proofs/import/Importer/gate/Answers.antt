@@ -1,4 +1,4 @@
-use Rattle.std.proofs.Common.{◌≡◌, ◌/◌, ◌≤◌, length, ap, arith}
+use Rattle.std.proofs.Common.{◌/◌, ◌≤◌, length, ap, arith}
 use Rattle.std.proofs.lemmas.List.Elements.{All-weaker}
 use Rattle.gi_circuit.specs.Nodes.{Parts}
 use Rattle.gi_circuit.proofs.Wiring.{and_in-longer}

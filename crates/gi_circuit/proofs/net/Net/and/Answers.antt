@@ -1,13 +1,12 @@
-use Rattle.std.proofs.Common.{◌≡◌, ◌≢◌, ℕ, ◌+◌, ◌*◌, ◌/◌, ◌<◌, ◌≤◌, sym, ap, ◌∙◌, subst, length, List, [], ◌∷◌, ◌++◌, refl, arith, Some, None, Option}
+use Rattle.std.proofs.Common.{◌≡◌, ◌+◌, sym, ap, ◌∙◌, subst, length, List, [], ◌∷◌, ◌++◌, refl, arith}
 use Rattle.std.specs.Map.{lookup}
-use Rattle.gi_circuit.specs.Nodes.{Parts, Made, IsMade, folded, and_in, gate_in, gate_from, pair_of, entries_from}
+use Rattle.gi_circuit.specs.Nodes.{Parts, Made, and_in, entries_from}
 use Rattle.gi_circuit.specs.declared.node.Pair.{Pair}
 use Rattle.gi_circuit.specs.declared.node.Node.{Node}
 use Rattle.gi_circuit.specs.declared.node.Node.TheVariants.{Gate}
 use Rattle.gi_circuit.specs.Nodes.{IsPlaced, IsSound}
 use Rattle.indexmap.proofs.CallerLemmas.{insert_entry-new}
-use Rattle.std.proofs.Common.{◌-◌}
-use Rattle.gi_circuit.proofs.Gates.{lookup-entries, entries-push, gate_found, folded_differ, and_in-folded, and_in-gate, pair_placed, a_pair, edge_fits, made_is, found_is}
+use Rattle.gi_circuit.proofs.Gates.{lookup-entries, entries-push, folded_differ, and_in-folded, pair_placed, edge_fits, made_is, found_is}
 use Rattle.gi_circuit.proofs.Sound.{IsSound-gate}
 use Rattle.gi_circuit.proofs.Meaning.{folded_within}
 use Rattle.gi_circuit.proofs.net.Net.and.Goals as goal

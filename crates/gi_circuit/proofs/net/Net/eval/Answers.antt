@@ -1,4 +1,4 @@
-use Rattle.std.proofs.Common.{◌≡◌, ◌≤◌, ◌+◌, ◌-◌, ◌<◌, ◌++◌, ◌∷◌, [], List, ℕ, Bool, false, length, take, sym, ap, ◌∙◌, subst, arith, get_or}
+use Rattle.std.proofs.Common.{◌≡◌, ◌+◌, ◌-◌, ◌<◌, ◌++◌, ◌∷◌, [], List, ℕ, Bool, false, length, take, sym, ap, ◌∙◌, subst, arith, get_or}
 use Rattle.std.proofs.lemmas.List.{length-take-le, get_or_read, take_all}
 use Rattle.std.proofs.lemmas.List.Sums.{fold_more}
 use Rattle.gi_circuit.specs.Nodes.{Parts, IsPlaced, value_of, node_values}
