@@ -14,14 +14,19 @@ mod solving;
 mod tests;
 mod visit;
 
+ghost use Rattle.std.specs.Prelude.{◌≡◌, ◌≢◌};
+ghost use Rattle.std.specs.IoError.{error_kind};
+
 use gi_outside::StdLink;
 use room::Room;
 use run::{fault_text, run};
 use std::alloc::Global;
+use std::io::ErrorKind;
 use std::process::ExitCode;
 use std::{env, io};
 
-/// The words of the command line, without the program's name.
+/// The words of the command line, without the program's name. An error is a word that isn't UTF-8 (`InvalidData`), or want
+/// of memory.
 fn words(rt: &HostRuntime, alloc: Global) -> io::Result<Vec<String>> {
     let mut words = Vec::new(alloc);
     for word in env::args(rt)?.skip(1) {
@@ -30,10 +35,22 @@ fn words(rt: &HostRuntime, alloc: Global) -> io::Result<Vec<String>> {
     Ok(words)
 }
 
+/// The exit status where the words can't be taken: 2 where one isn't UTF-8, as no command has such a word, and else 3.
+fn status_without_words(error: &io::Error) -> u8
+    ensures text { error_kind error.now ≡ ErrorKind.InvalidData → result ≡ 2 }
+    ensures memory { error_kind error.now ≢ ErrorKind.InvalidData → result ≡ 3 }
+{
+    match error.kind() {
+        ErrorKind::InvalidData => 2,
+        _ => 3,
+    }
+}
+
 /// Runs the program, and gives its exit status.
 fn status(rt: &HostRuntime, alloc: Global) -> u8 {
-    let Ok(words) = words(rt, alloc) else {
-        return 3;
+    let words = match words(rt, alloc) {
+        Ok(words) => words,
+        Err(error) => return status_without_words(&error),
     };
     let Ok((room, pass)) = Room::open(alloc) else {
         return 3;
