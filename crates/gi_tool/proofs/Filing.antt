@@ -1,5 +1,5 @@
 -- A file that was solved on a pass.
-use Rattle.std.proofs.Common.{◌≡◌, ℕ, ◌≤◌, ◌^◌, ◌==◌, Bool, true, false, not, ◌&&◌, cond, List, [], ◌∷◌, ◌++◌, length, ◌⊎◌, inl, inr, refl, sym, ap, subst, ◌∙◌, arith, eq-eqb, append-nil, append_assoc}
+use Rattle.std.proofs.Common.{◌≡◌, ℕ, ◌≤◌, ◌^◌, ◌==◌, true, false, not, ◌&&◌, List, [], ◌∷◌, ◌++◌, length, ◌⊎◌, inl, inr, refl, sym, ap, subst, ◌∙◌, arith, eq-eqb, append-nil, append_assoc}
 use Rattle.std.specs.List.{All}
 use Rattle.std.proofs.lemmas.Bool.{both_ways, not-true, and_parts, or_cases}
 use Rattle.std.proofs.lemmas.List.Elements.{All-head, All-tail, All-weaker, All-contains, Contains-append_right, filter_passes}
@@ -18,7 +18,7 @@ use Rattle.gi_net.specs.Standing.{Standing}
 use Rattle.gi_solving.specs.Doing.{Does}
 use Rattle.gi_solving.specs.Done.{AreProper, IsDenied, is_proper}
 use Rattle.gi_solving.specs.Grown.{Grown}
-use Rattle.gi_solving.specs.Laws.{AreGood, CallsAreAnswered, FailuresAreTrue, IsHistoryOf, IsUnstopped, ModelsAreTrue, StandsIn, UnknownIsSpent, has_failed, lacks_memory}
+use Rattle.gi_solving.specs.Laws.{AreGood, AsksAreWritten, CallsAreAnswered, FailuresAreTrue, IsHistoryOf, IsUnstopped, ModelsAreTrue, StandsIn, UnknownIsSpent, has_failed, lacks_memory}
 use Rattle.gi_solving.specs.Solves.{Answers, Solves, Stops}
 use Rattle.gi_solving.specs.Steps.{HasSteps, Step}
 use Rattle.gi_solving.specs.declared.answer.Answer.{Answer}
@@ -29,17 +29,18 @@ use Rattle.gi_solving.specs.declared.answer.Stop.TheVariants as stops
 use Rattle.gi_tool.specs.Kept.{IsHistory, IsOwn}
 use Rattle.gi_tool.specs.Seen.{Seen, standing}
 use Rattle.gi_tool.specs.Shutting.{HasLostWork}
+use Rattle.gi_tool.proofs.Lost.{IsLost, lost_or_called}
 use Rattle.gi_tool.proofs.Having.{Has, has_contained, has_left, has_right, has_split, has_unfiltered}
-use Rattle.gi_tool.specs.Solving.{AreTrue, HasSolved, IsAnswered, IsNew, IsUndisturbed}
+use Rattle.gi_tool.specs.Solving.{AreAsked, AreTrue, HasSolved, IsAnswered, IsNew, IsUndisturbed}
 
 all_own : (es : List Entry) → All IsOwn es → all_own_of 0 es ≡ es
 all_own [] h = refl
 all_own (e ∷ es) h = rw (eq-eqb e.by 0 (All-head IsOwn e es h).by) (ap (λ xs. e ∷ xs) (all_own es (All-tail IsOwn e es h)))
 
 -- the calls of a good file were begun
-pub record Began (budget : ℕ) (before after : Standing) : Type 0 where
+pub record Began (form : Form) (bytes : List ℕ) (budget : ℕ) (before after : Standing) : Type 0 where
   pub steps : List Step
-  pub good : AreGood steps
+  pub are : HasSteps form bytes steps
   pub calls : List Entry
   pub rest : List Entry
   pub grown : Grown before after calls
@@ -50,21 +51,21 @@ good_of forms.Cnf bytes steps h = inl (h.0, good_values.only h.0 bytes h.1, h.2)
 good_of forms.Icnf bytes steps h = inr (h.0, good_values.only_icnf h.0 bytes h.1, h.2)
 
 module _ (form : Form) (budget : ℕ) (old mid new : World) (before after : Standing) (bytes : List ℕ) where
-  abbrev answered_began : (answer : Answer) → Answers answer form budget old mid new before after bytes → Began budget before after
+  abbrev answered_began : (answer : Answer) → Answers answer form budget old mid new before after bytes → Began form bytes budget before after
   answered_began answer a = record {
     steps = a.steps;
-    good = good_of form bytes a.steps a.are;
+    are = a.are;
     calls = a.done.calls;
     rest = [];
     grown = a.done.grown;
     does = subst (Does budget a.steps) (sym (append-nil a.done.calls)) a.done.does;
   }
 
-  abbrev stopped_began : (by : Stop) → Stops by form budget old mid new before after bytes → Began budget before after
-  stopped_began by a = record { steps = a.steps; good = good_of form bytes a.steps a.are; calls = a.begun.calls; rest = a.begun.rest; grown = a.begun.grown; does = a.begun.does }
+  abbrev stopped_began : (by : Stop) → Stops by form budget old mid new before after bytes → Began form bytes budget before after
+  stopped_began by a = record { steps = a.steps; are = a.are; calls = a.begun.calls; rest = a.begun.rest; grown = a.begun.grown; does = a.begun.does }
 
 -- nothing was called, or the calls of a good file were begun
-began : (by : Solved) (form : Form) (budget : ℕ) (old new : World) (before after : Standing) → Solves by form budget old new before after → (after ≡ before) ⊎ Began budget before after
+began : (by : Solved) (form : Form) (budget : ℕ) (old new : World) (before after : Standing) (s : Solves by form budget old new before after) → (after ≡ before) ⊎ Began form s.bytes budget before after
 began solved.Sat form budget old new before after s = inr (answered_began form budget old s.mid new before after s.bytes _ s.ends)
 began solved.Unsat form budget old new before after s = inr (answered_began form budget old s.mid new before after s.bytes _ s.ends)
 began solved.Unknown form budget old new before after s = inr (answered_began form budget old s.mid new before after s.bytes _ s.ends)
@@ -76,7 +77,7 @@ began solved.TooMuch form budget old new before after s = elim s.ends [ inl r �
 began solved.Denied form budget old new before after s = inr (stopped_began form budget old s.mid new before after s.bytes _ s.ends)
 
 -- the whole history of such a pass is that of the file's calls, or of a front of them
-module _ (budget : ℕ) (p q : Seen) (new : IsNew p) (b : Began budget (standing p) (standing q)) (kept : IsHistory q.history) where
+module _ (form : Form) (bytes : List ℕ) (budget : ℕ) (p q : Seen) (new : IsNew p) (b : Began form bytes budget (standing p) (standing q)) (kept : IsHistory q.history) where
   entered : q.history ≡ b.grown.entries
   entered = b.grown.history ∙ ap (λ es. es ++ b.grown.entries) new.history
 
@@ -103,13 +104,13 @@ module _ (budget : ℕ) (p q : Seen) (new : IsNew p) (b : Began budget (standing
     does = subst (λ cs. Does budget b.steps (cs ++ b.rest)) (sym own_is) b.does;
   }
 
-  pub stands : 1 ≤ budget → (before after : List Entry) (e : Entry) → q.history ≡ before ++ e ∷ after → StandsIn budget before e
+  abbrev stands : 1 ≤ budget → (before after : List Entry) (e : Entry) → q.history ≡ before ++ e ∷ after → StandsIn budget before e
   stands least before after e split = record {
     number = 0;
     steps = b.steps;
     after = after;
     positive = least;
-    good = b.good;
+    good = good_of form bytes b.steps b.are;
     history = subst (IsHistoryOf 0 budget b.steps) split history_of;
   }
 
@@ -117,8 +118,16 @@ no_split : {P : Type 0} (es before after : List Entry) (e : Entry) → es ≡ []
 no_split es [] after e none split = let n : [] ≡ e ∷ after = sym none ∙ split in absurd cc
 no_split es (x ∷ before) after e none split = let n : [] ≡ x ∷ (before ++ e ∷ after) = sym none ∙ split in absurd cc
 
-module _ (budget : ℕ) (p q : Seen) (new : IsNew p) (least : 1 ≤ budget) (kept : IsHistory q.history) (answered : CallsAreAnswered) (models : ModelsAreTrue) (failures : FailuresAreTrue) (unknown : UnknownIsSpent) where
-  true_of : (standing q ≡ standing p) ⊎ Began budget (standing p) (standing q) → AreTrue budget q.history
+module _ (form : Form) (bytes : List ℕ) (budget : ℕ) (p q : Seen) (new : IsNew p) (least : 1 ≤ budget) (kept : IsHistory q.history) where
+  -- what was told at a wait and at a model
+  asked_of : AsksAreWritten → (standing q ≡ standing p) ⊎ Began form bytes budget (standing p) (standing q) → AreAsked form bytes q.history
+  asked_of written (inl same) before after e split c = no_split q.history before after e (ap (λ (s : Standing). s.history) same ∙ new.history) split
+  asked_of written (inr b) before after e split c =
+      let w = written budget before e (stands form bytes budget p q new b kept least before after e split) c in
+      record { steps = b.steps; are = b.are; front = w.0; rest = w.1; split = w.2; told_is = w.3 }
+
+module _ (form : Form) (bytes : List ℕ) (budget : ℕ) (p q : Seen) (new : IsNew p) (least : 1 ≤ budget) (kept : IsHistory q.history) (answered : CallsAreAnswered) (models : ModelsAreTrue) (failures : FailuresAreTrue) (unknown : UnknownIsSpent) where
+  true_of : (standing q ≡ standing p) ⊎ Began form bytes budget (standing p) (standing q) → AreTrue budget q.history
   true_of (inl same) =
       let none : q.history ≡ [] = ap (λ (s : Standing). s.history) same ∙ new.history in
       record {
@@ -128,10 +137,10 @@ module _ (budget : ℕ) (p q : Seen) (new : IsNew p) (least : 1 ≤ budget) (kep
         unknown = λ before after e serial because split c r. no_split q.history before after e none split;
       }
   true_of (inr b) = record {
-    answered = λ before after e split n. answered budget before e (stands budget p q new b kept least before after e split) n;
-    models = λ before after e literals split c r. models budget before e literals (stands budget p q new b kept least before after e split) c r;
-    failures = λ before after e serial failed split c r. failures budget before e serial failed (stands budget p q new b kept least before after e split) c r;
-    unknown = λ before after e serial because split c r. (unknown budget before e serial because (stands budget p q new b kept least before after e split) c r).1;
+    answered = λ before after e split n. answered budget before e (stands form bytes budget p q new b kept least before after e split) n;
+    models = λ before after e literals split c r. models budget before e literals (stands form bytes budget p q new b kept least before after e split) c r;
+    failures = λ before after e serial failed split c r. failures budget before e serial failed (stands form bytes budget p q new b kept least before after e split) c r;
+    unknown = λ before after e serial because split c r. (unknown budget before e serial because (stands form bytes budget p q new b kept least before after e split) c r).1;
   }
 
 -- where an entry stands
@@ -142,26 +151,6 @@ at_split (e ∷ es) x (inr there) = let r = at_split es x there in (e ∷ r.0, r
 
 abbrev IsStarved : Entry → Type 0
 IsStarved e = e.reply ≡ reply.NoMemory
-
-abbrev IsLost : Entry → Type 0
-IsLost e = (is_work e.call ≡ true) × (e.reply ≡ reply.NoMemory)
-
--- an entry without memory is lost work or a call
-starved_or_called : (es : List Entry) → All IsOwn es → Has IsStarved es → Has IsLost es ⊎ Has IsStarved (own_of 0 es)
-starved_or_called [] own h = absurd h
-starved_or_called (e ∷ es) own (inl here) = go (is_work e.call) refl
-  where
-    go : (w : Bool) → is_work e.call ≡ w → (IsLost e ⊎ Has IsLost es) ⊎ Has IsStarved (cond ((e.by == 0) && not (is_work e.call)) (e ∷ own_of 0 es) (own_of 0 es))
-    go true w = inl (inl (w, here))
-    go false w = rw (eq-eqb e.by 0 (All-head IsOwn e es own).by, w) (inr (inl here))
-starved_or_called (e ∷ es) own (inr there) = elim (starved_or_called es (All-tail IsOwn e es own) there) [
-  | inl lost ↦ inl (inr lost)
-  | inr called ↦ inr (go ((e.by == 0) && not (is_work e.call)) called)
-]
-  where
-    go : (b : Bool) → Has IsStarved (own_of 0 es) → Has IsStarved (cond b (e ∷ own_of 0 es) (own_of 0 es))
-    go true h = inr h
-    go false h = h
 
 starved_reply : (r : Reply) → lacks_memory r ≡ true → r ≡ reply.NoMemory
 starved_reply reply.NoMemory e = refl
@@ -181,32 +170,32 @@ none_starved [] a h = h
 none_starved (e ∷ es) a (inl here) = not_proper e.call (subst (λ r. is_proper e.call r ≡ true) here a.0)
 none_starved (e ∷ es) a (inr there) = none_starved es a.1 there
 
-module _ (budget : ℕ) (p q : Seen) (new : IsNew p) (least : 1 ≤ budget) (kept : IsHistory q.history) (answered : CallsAreAnswered) (b : Began budget (standing p) (standing q)) (d : IsDenied b.calls) where
+module _ (form : Form) (bytes : List ℕ) (budget : ℕ) (p q : Seen) (new : IsNew p) (least : 1 ≤ budget) (kept : IsHistory q.history) (answered : CallsAreAnswered) (b : Began form bytes budget (standing p) (standing q)) (d : IsDenied b.calls) where
   abbrev last : Entry
   last = d.0.last
 
   is_call : is_work last.call ≡ false
   is_call =
       let ps : All (λ (e : Entry). ((e.by == 0) && not (is_work e.call)) ≡ true) (d.0.before ++ last ∷ []) =
-      subst (All (λ (e : Entry). ((e.by == 0) && not (is_work e.call)) ≡ true)) (own_is budget p q new b kept ∙ d.0.split) (filter_passes (λ (e : Entry). (e.by == 0) && not (is_work e.call)) q.history) in
+      subst (All (λ (e : Entry). ((e.by == 0) && not (is_work e.call)) ≡ true)) (own_is form bytes budget p q new b kept ∙ d.0.split) (filter_passes (λ (e : Entry). (e.by == 0) && not (is_work e.call)) q.history) in
       not-true _ (and_parts _ _ (All-contains (λ (e : Entry). ((e.by == 0) && not (is_work e.call)) ≡ true) (d.0.before ++ last ∷ []) last ps (Contains-append_right d.0.before (last ∷ []) last (0, omega arith, refl)))).1
 
   called : Has (λ (e : Entry). e ≡ last) q.history
   called = has_unfiltered (λ (e : Entry). e ≡ last) (λ (e : Entry). (e.by == 0) && not (is_work e.call)) q.history
-      (subst (Has (λ (e : Entry). e ≡ last)) (sym (own_is budget p q new b kept ∙ d.0.split)) (has_right (λ (e : Entry). e ≡ last) d.0.before (last ∷ []) (inl refl)))
+      (subst (Has (λ (e : Entry). e ≡ last)) (sym (own_is form bytes budget p q new b kept ∙ d.0.split)) (has_right (λ (e : Entry). e ≡ last) d.0.before (last ∷ []) (inl refl)))
 
   starved : Has IsStarved q.history
   starved =
       let at = at_split q.history last called in
-      elim (answered budget at.0 last (stands budget p q new b kept least at.0 at.1 last at.2) is_call) [
+      elim (answered budget at.0 last (stands form bytes budget p q new b kept least at.0 at.1 last at.2) is_call) [
         | inl proper ↦ absurd (both_ways _ d.0.improper proper)
         | inr failed ↦ subst (Has IsStarved) (append_assoc at.0 (last ∷ []) at.1 ∙ sym at.2) (has_left IsStarved (at.0 ++ last ∷ []) at.1 (failed_starved (at.0 ++ last ∷ []) failed))
       ]
 
   lost : HasLostWork q.history
-  lost = elim (starved_or_called q.history kept.own starved) [
+  lost = elim (lost_or_called IsStarved (λ e w h. h) q.history kept.own starved) [
     | inl gone ↦ (let h = has_contained IsLost q.history gone in (h.0, h.1, h.2.0, h.2.1))
-    | inr in_calls ↦ elim (has_split IsStarved d.0.before (last ∷ []) (subst (Has IsStarved) (own_is budget p q new b kept ∙ d.0.split) in_calls)) [
+    | inr in_calls ↦ elim (has_split IsStarved d.0.before (last ∷ []) (subst (Has IsStarved) (own_is form bytes budget p q new b kept ∙ d.0.split) in_calls)) [
       | inl before ↦ absurd (none_starved d.0.before d.0.proper before)
       | inr (inl here) ↦ absurd (d.1 here)
       | inr (inr none) ↦ absurd none
@@ -214,7 +203,7 @@ module _ (budget : ℕ) (p q : Seen) (new : IsNew p) (least : 1 ≤ budget) (kep
   ]
 
 denied_lost : (by : Solved) (form : Form) (budget : ℕ) (old now : World) (p q : Seen) → IsNew p → 1 ≤ budget → IsHistory q.history → CallsAreAnswered → Solves by form budget old now (standing p) (standing q) → by ≡ solved.Denied → HasLostWork q.history
-denied_lost solved.Denied form budget old now p q new least kept answered s e = lost budget p q new least kept answered (stopped_began form budget old s.mid now (standing p) (standing q) s.bytes stops.Denied s.ends) s.ends.begun.cause.0
+denied_lost solved.Denied form budget old now p q new least kept answered s e = lost form s.bytes budget p q new least kept answered (stopped_began form budget old s.mid now (standing p) (standing q) s.bytes stops.Denied s.ends) s.ends.begun.cause.0
 denied_lost by form budget old now p q new least kept answered s e = absurd cc
 
 module _ (form : Form) (budget : ℕ) (old now : World) (p q : Seen) where
@@ -239,11 +228,12 @@ module _ (form : Form) (budget : ℕ) (old now : World) (p q : Seen) where
   undisturbed_whole solved.Denied s lost u = absurd (u.work (lost refl))
 
   -- all that holds of a file that was solved on a pass
-  pub has_solved : (by : Solved) → Solves by form budget old now (standing p) (standing q) → 1 ≤ budget → IsHistory q.history → CallsAreAnswered → ModelsAreTrue → FailuresAreTrue → UnknownIsSpent → HasSolved by form budget old now p q
-  has_solved by s least kept answered models failures unknown = record {
+  pub has_solved : (by : Solved) → Solves by form budget old now (standing p) (standing q) → 1 ≤ budget → IsHistory q.history → CallsAreAnswered → ModelsAreTrue → FailuresAreTrue → UnknownIsSpent → AsksAreWritten → HasSolved by form budget old now p q
+  has_solved by s least kept answered models failures unknown written = record {
     solves = s;
     kept = kept;
-    truths = λ new. true_of budget p q new least kept answered models failures unknown (began by form budget old now (standing p) (standing q) s);
+    truths = λ new. true_of form s.bytes budget p q new least kept answered models failures unknown (began by form budget old now (standing p) (standing q) s);
+    asks = λ new. asked_of form s.bytes budget p q new least kept written (began by form budget old now (standing p) (standing q) s);
     denied = λ new. denied_lost by form budget old now p q new least kept answered s;
     whole = λ new. undisturbed_whole by s (denied_lost by form budget old now p q new least kept answered s);
   }

@@ -21,7 +21,8 @@ use Rattle.gi_tool.specs.Shutting.{Ends, HasEnded, HasLostWork}
 use Rattle.gi_tool.proofs.Asking.{never_called}
 use Rattle.gi_tool.proofs.Having.{Has, has_contained, has_split}
 
-abbrev IsLost : Entry → Type 0
+-- work that found no memory
+abbrev pub IsLost : Entry → Type 0
 IsLost e = (is_work e.call ≡ true) × (e.reply ≡ reply.NoMemory)
 
 abbrev IsStarved : Reply → Type 0
@@ -31,22 +32,28 @@ no_shut : (c : Call) → is_work c ≡ true → c ≢ call.Shut
 no_shut (call.Work mark) w e = absurd cc
 no_shut c w e = absurd cc
 
--- an entry by which a machine is over is lost work or a call
-lost_or_called : (es : List Entry) → All IsOwn es → Has Ends es → Has IsLost es ⊎ Has Ends (own_of 0 es)
-lost_or_called [] own h = absurd h
-lost_or_called (e ∷ es) own (inl here) = go (is_work e.call) refl
-  where
-    go : (w : Bool) → is_work e.call ≡ w → (IsLost e ⊎ Has IsLost es) ⊎ Has Ends (cond ((e.by == 0) && not (is_work e.call)) (e ∷ own_of 0 es) (own_of 0 es))
-    go true w = inl (inl (w, elim here [ inl shut ↦ absurd (no_shut e.call w shut.0) | inr starved ↦ starved ]))
-    go false w = rw (eq-eqb e.by 0 (All-head IsOwn e es own).by, w) (inr (inl here))
-lost_or_called (e ∷ es) own (inr there) = elim (lost_or_called es (All-tail IsOwn e es own) there) [
-  | inl lost ↦ inl (inr lost)
-  | inr called ↦ inr (go ((e.by == 0) && not (is_work e.call)) called)
-]
-  where
-    go : (b : Bool) → Has Ends (own_of 0 es) → Has Ends (cond b (e ∷ own_of 0 es) (own_of 0 es))
-    go true h = inr h
-    go false h = h
+-- an entry of a kind is lost work or a call, where no other work is of that kind
+module _ (P : Entry → Type 0) (only_lost : (e : Entry) → is_work e.call ≡ true → P e → e.reply ≡ reply.NoMemory) where
+  pub lost_or_called : (es : List Entry) → All IsOwn es → Has P es → Has IsLost es ⊎ Has P (own_of 0 es)
+  lost_or_called [] own h = absurd h
+  lost_or_called (e ∷ es) own (inl here) = go (is_work e.call) refl
+    where
+      go : (w : Bool) → is_work e.call ≡ w → (IsLost e ⊎ Has IsLost es) ⊎ Has P (cond ((e.by == 0) && not (is_work e.call)) (e ∷ own_of 0 es) (own_of 0 es))
+      go true w = inl (inl (w, only_lost e w here))
+      go false w = rw (eq-eqb e.by 0 (All-head IsOwn e es own).by, w) (inr (inl here))
+  lost_or_called (e ∷ es) own (inr there) = elim (lost_or_called es (All-tail IsOwn e es own) there) [
+    | inl lost ↦ inl (inr lost)
+    | inr called ↦ inr (go ((e.by == 0) && not (is_work e.call)) called)
+  ]
+    where
+      go : (b : Bool) → Has P (own_of 0 es) → Has P (cond b (e ∷ own_of 0 es) (own_of 0 es))
+      go true h = inr h
+      go false h = h
+
+-- work is told to end the machine only by want of memory
+ends_lost : (e : Entry) → is_work e.call ≡ true → Ends e → e.reply ≡ reply.NoMemory
+ends_lost e w (inl shut) = absurd (no_shut e.call w shut.0)
+ends_lost e w (inr starved) = starved
 
 shut_or_starved : (es : List Entry) → Has Ends es → Has (λ (c : Call). c ≡ call.Shut) (map (λ (e : Entry). e.call) es) ⊎ Has IsStarved (replies es)
 shut_or_starved [] h = absurd h
@@ -97,7 +104,7 @@ pub lost_work : (seen entries : List Entry) (ended : Bool) (bytes : List ℕ) (f
     → EndsBy (answers front (replies (own_of 0 entries))) (reply.Refused refusal.Dead) → HasLostWork entries
 lost_work seen entries ended bytes front rest own ends fresh split same by = elim (has_split Ends seen entries ends) [
   | inl before ↦ absurd (fresh (has_contained Ends seen before))
-  | inr here ↦ elim (lost_or_called entries own here) [
+  | inr here ↦ elim (lost_or_called Ends ends_lost entries own here) [
     | inl lost ↦ (let h = has_contained IsLost entries lost in (h.0, h.1, h.2.0, h.2.1))
     | inr called ↦ absurd (not_called ended bytes front rest (own_of 0 entries) split same by called)
   ]

@@ -13,7 +13,8 @@ use Rattle.gi_net.specs.Entries.{is_work}
 use Rattle.gi_solving.specs.Done.{is_proper}
 use Rattle.gi_solving.specs.Laws.{has_failed, IsModelOf, IsSpent}
 use Rattle.gi_solving.specs.Solves.{Solves}
-use Rattle.gi_solving.specs.Told.{told}
+use Rattle.gi_solving.specs.Steps.{HasSteps, Step, Solve}
+use Rattle.gi_solving.specs.Told.{nothing_told, told, told_step, told_steps}
 use Rattle.gi_solving.specs.declared.answer.Solved.{Solved}
 use Rattle.gi_solving.specs.declared.answer.Solved.TheVariants as solved
 use Rattle.gi_tool.specs.Kept.{IsHistory}
@@ -48,6 +49,20 @@ pub record AreTrue (budget : ℕ) (es : List Entry) : Type 0 where
   -- and it isn't known only where the budget was spent, by fresh clauses
   pub unknown : (before after : List Entry) (e : Entry) (serial : ℕ) (because : Why) → es ≡ before ++ e ∷ after → e.call ≡ call.Wait → e.reply ≡ reply.Status serial (status.Unknown because) → IsSpent budget before
 
+-- the machine was told the steps up to a solve of the file that the bytes are, and nothing else: so the clauses so far are those
+-- that stand before that solve, and the assumptions are those of its ask
+pub record IsAsked (form : Form) (bytes : List ℕ) (before : List Entry) : Type 0 where
+  pub steps : List Step
+  pub are : HasSteps form bytes steps
+  pub front : List Step
+  pub rest : List Step
+  pub split : steps ≡ front ++ Solve ∷ rest
+  pub told_is : told before ≡ told_step (told_steps nothing_told front) Solve
+
+-- so it was before each wait, and before each model
+abbrev pub AreAsked : Form → List ℕ → List Entry → Type 0
+AreAsked form bytes es = (before after : List Entry) (e : Entry) → es ≡ before ++ e ∷ after → (e.call ≡ call.Wait) ⊎ (e.call ≡ call.Model) → IsAsked form bytes before
+
 -- the premises of complete solves: no fault, no want of memory, not too many bytes, calls left
 pub record IsUndisturbed (by : Solved) (bytes : List ℕ) (old new : World) (after : Seen) : Type 0 where
   pub reads : ¬ Rose old.failed_reads new.failed_reads
@@ -67,6 +82,8 @@ pub record HasSolved (by : Solved) (form : Form) (budget : ℕ) (old new : World
   -- the history is a legal one, and all its entries are the pass's own
   pub kept : IsHistory after.history
   pub truths : IsNew before → AreTrue budget after.history
+  -- and the clauses and assumptions that they are true of are the file's
+  pub asks : IsNew before → AreAsked form solves.bytes after.history
   -- a new machine denies a call only where work found no memory
   pub denied : IsNew before → by ≡ solved.Denied → HasLostWork after.history
   pub whole : IsNew before → IsUndisturbed by solves.bytes old new after → IsAnswered by

@@ -7,7 +7,8 @@ use crate::visit::Visit;
 use gi_files::Form;
 use gi_outside::Link;
 use gi_solving::{
-    Solved, calls_are_answered, failures_are_true, models_are_true, solve, unknown_is_spent,
+    Solved, asks_are_written, calls_are_answered, failures_are_true, models_are_true, solve,
+    unknown_is_spent,
 };
 use std::alloc::Global;
 
@@ -22,6 +23,7 @@ pub fn solve_file<L: Link>(
     requires { 1 ≤ budget }
     ensures { HasSolved result.0 form budget (L.state user.old) (L.state user.new) pass result.1 }
 {
+    asks_are_written();
     calls_are_answered();
     models_are_true();
     failures_are_true();
@@ -35,7 +37,9 @@ pub fn solve_file<L: Link>(
     }
 }
 
-/// The exit status of solves that ended so.
+/// The exit status of solves that ended so: by the last answer 10, 20 or 0, where there was none 0, 1 where the input was
+/// refused, 3 for want of memory or a call that was denied, 4 and 5 for a read and a write that failed, 8 where no call was left
+/// or too many bytes came.
 pub fn status_of_solves(solved: Solved) -> u8
     ensures value { result ≡ solved_status solved }
     ensures not_two { result ≢ 2 }
