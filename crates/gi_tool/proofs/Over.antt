@@ -41,10 +41,11 @@ used (asked.Call c) (r ∷ rs) h = inl h
 used asked.Syntax rs h = absurd cc
 used asked.Long rs h = absurd cc
 
-first_is : (x y : Answer) (xs ys : List Answer) → x ∷ xs ≡ y ∷ ys → x ≡ y
+-- what two lists that are one begin with, and what stands behind
+pub first_is : (x y : Answer) (xs ys : List Answer) → x ∷ xs ≡ y ∷ ys → x ≡ y
 first_is x y xs ys e = cc
 
-rest_is : (x y : Answer) (xs ys : List Answer) → x ∷ xs ≡ y ∷ ys → xs ≡ ys
+pub rest_is : (x y : Answer) (xs ys : List Answer) → x ∷ xs ≡ y ∷ ys → xs ≡ ys
 rest_is x y xs ys e = cc
 
 pub dead_reply : (is : List Item) (rs : List Reply) (before : List Answer) (last : Answer) → answers is rs ≡ before ++ last ∷ [] → IsDead last.reply → Has IsDead rs

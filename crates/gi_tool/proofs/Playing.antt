@@ -1,11 +1,10 @@
 -- A drill that was served on a pass.
-use Rattle.std.proofs.Common.{◌≡◌, ◌≢◌, ℕ, ◌+◌, ◌<◌, ◌≤◌, ◌^◌, ◌==◌, Bool, true, false, not, ◌&&◌, cond, Option, Some, None, option_map, option_to_list, List, [], ◌∷◌, ◌++◌, length, map, filter, take, get_or, ◌⊎◌, inl, inr, refl, sym, ap, subst, ◌∙◌, arith, eq-eqb, append-nil, append_assoc, length-append}
+use Rattle.std.proofs.Common.{◌≡◌, ◌≢◌, ℕ, ◌+◌, ◌<◌, ◌≤◌, Bool, true, false, Option, Some, None, option_map, option_to_list, List, [], ◌∷◌, ◌++◌, length, map, take, get_or, ◌⊎◌, inl, inr, refl, sym, ap, subst, ◌∙◌, arith, eq-eqb, append-nil, append_assoc, length-append}
 use Rattle.std.specs.Option.{IfSome}
 use Rattle.std.specs.List.{All, AllByRecursion, Contains}
 use Rattle.std.proofs.lemmas.List.{take_more, get_or-map, length-map}
 use Rattle.std.proofs.lemmas.List.Elements.{All-head, All-tail, Contains-append_left}
 use Rattle.gi_outside.specs.Link.{ins}
-use Rattle.gi_outside.specs.Told.{Takes}
 use Rattle.gi_outside.specs.World.{World}
 use Rattle.gi_model.specs.History.{Entry, IsLegal}
 use Rattle.gi_model.specs.Refusals.{is_work}
@@ -13,7 +12,7 @@ use Rattle.gi_model.specs.declared.calls.Call.{Call}
 use Rattle.gi_model.specs.declared.calls.Call.TheVariants as call
 use Rattle.gi_model.specs.declared.replies.Reply.{Reply}
 use Rattle.gi_model.specs.declared.replies.Reply.TheVariants as reply
-use Rattle.gi_wire.specs.Items.{item, items}
+use Rattle.gi_wire.specs.Items.{items}
 use Rattle.gi_wire.specs.Laws.{ItemsStay}
 use Rattle.gi_wire.specs.declared.reader.Asked.{Asked}
 use Rattle.gi_wire.specs.declared.reader.Asked.TheVariants as asked
@@ -27,7 +26,7 @@ use Rattle.gi_net.specs.declared.how.How.{How}
 use Rattle.gi_net.specs.declared.how.How.TheVariants as how
 use Rattle.gi_net.proofs.Answering.{calls-append, replies_fit}
 use Rattle.gi_drill.specs.Counting.{noted, tally_from, tally_of}
-use Rattle.gi_drill.specs.Laws.{ByeIsLast, ClausesAreTaken, FewAreSat, FewAreUnsat, IsLively, Plays, ScriptIsRead, VariablesAreTold, without_work}
+use Rattle.gi_drill.specs.Laws.{ByeIsLast, ClausesAreTaken, FewAreSat, FewAreUnsat, IsLively, Plays, ScriptIsRead, ScriptIsShort, VariablesAreTold, without_work}
 use Rattle.gi_drill.specs.Script.{numbered, script, script_text}
 use Rattle.gi_drill.specs.declared.tally.Tally.{Tally}
 use Rattle.gi_tool.specs.declared.drilling.Drilled.{Drilled}
@@ -41,6 +40,7 @@ use Rattle.gi_tool.specs.Solving.{IsNew}
 use Rattle.gi_tool.specs.declared.entry.Entry.{Entry as Noted}
 use Rattle.gi_tool.proofs.Having.{Has, has_right}
 use Rattle.gi_tool.proofs.Hosting.{kept_mid}
+use Rattle.gi_tool.proofs.Over.{first_is, rest_is}
 
 -- one entry more is counted
 pub tally_push : (es : List Entry) (e : Entry) (t : Tally) → tally_from t (es ++ e ∷ []) ≡ noted (tally_from t es) e.call e.reply
@@ -89,12 +89,6 @@ whole_front (x ∷ xs) ys (c ∷ before) b e others h =
     there : (x ≡ b) ⊎ Has (λ (c : Call). c ≡ b) xs → x ≡ c → Has (λ (c : Call). c ≡ b) xs
     there (inl is) first = absurd (others.0 (sym first ∙ is))
     there (inr h) first = h
-
-first_is : (x y : Answer) (xs ys : List Answer) → x ∷ xs ≡ y ∷ ys → x ≡ y
-first_is x y xs ys e = cc
-
-rest_is : (x y : Answer) (xs ys : List Answer) → x ∷ xs ≡ y ∷ ys → xs ≡ ys
-rest_is x y xs ys e = cc
 
 -- what the last answer was asked for is a call
 answered_at : (is : List Item) (rs : List Reply) (before : List Answer) (last : Answer) (c : Call) → answers is rs ≡ before ++ last ∷ [] → last.item.asked ≡ asked.Call c → Has (λ (d : Call). d ≡ c) (calls is)
@@ -276,7 +270,7 @@ none_ended : (es : List Entry) → es ≡ [] → ¬ HasEnded es
 none_ended [] e ended = let at = ended.1.1 in omega arith
 none_ended (x ∷ es) e ended = absurd cc
 
-module _ (rounds : ℕ) (few : rounds ≤ 10000) (start end old now : World) (p q : Seen) (stay : ItemsStay) (read : ScriptIsRead) (bye_last : ByeIsLast) (rest : start.rest ≡ Some (script_text rounds)) (empty : end.ended ≡ true → IfSome end.rest (λ bytes. bytes ≡ [])) where
+module _ (rounds : ℕ) (few : rounds ≤ 10000) (start end old now : World) (p q : Seen) (stay : ItemsStay) (read : ScriptIsRead) (short : ScriptIsShort) (bye_last : ByeIsLast) (rest : start.rest ≡ Some (script_text rounds)) (empty : end.ended ≡ true → IfSome end.rest (λ bytes. bytes ≡ [])) where
   abbrev Host : How → Type 0
   Host by = Hosts start end (standing p) (standing q) by
 
@@ -286,13 +280,27 @@ module _ (rounds : ℕ) (few : rounds ≤ 10000) (start end old now : World) (p 
   never_eof : ¬ Host how.Eof
   never_eof h = no_eof rounds start end (standing p) h.mid stay read bye_last rest empty h.session
 
+  shut_too_much : (h : Host how.TooMuch) → Shuts h.mid (standing q)
+  shut_too_much h = elim h.behind [ inl shut ↦ shut | inr none ↦ elim none.told [ ] ]
+
+  left_none : (mid : Standing) → Shuts mid (standing q) → mid.left ≡ 0 → q.left ≡ 0
+  left_none mid (inl shut) none = let l = shut.left in omega arith
+  left_none mid (inr same) none = ap (λ (s : Standing). s.left) same.1 ∙ none
+
+  -- the script is short, so what is too much is that no call is left
+  spent_all : Host how.TooMuch → q.left ≡ 0
+  spent_all h = elim h.session.served.ends.0 [
+    | inl many ↦ absurd (let taken = few_bytes rounds start end (standing p) h.mid stay read bye_last rest empty how.TooMuch h.session in let all = (short rounds).1 in omega arith)
+    | inr spent ↦ left_none h.mid (shut_too_much h) spent.1
+  ]
+
   ends_of : (by : How) (d : Drilled) → Told by d → Host by → Ends d rounds old now p q
   ends_of how.Bye drilled.Done t h = (record { start = start; end = end; rest = rest; hosts = h }, t)
   ends_of how.Bye drilled.Cut t h = (record { start = start; end = end; rest = rest; hosts = h }, t)
-  ends_of how.NoMemory drilled.NoMemory t h = (tt, t)
-  ends_of how.ReadFault drilled.NoMemory t h = (tt, t)
-  ends_of how.WriteFault drilled.NoMemory t h = (tt, t)
-  ends_of how.TooMuch drilled.TooMuch t h = (record { start = start; end = end; rest = rest; hosts = h }, t)
+  ends_of how.NoMemory drilled.NoMemory t h = (inr (inl (record { start = start; end = end; rest = rest; hosts = h })), t)
+  ends_of how.ReadFault drilled.NoMemory t h = (inr (inr (inl (record { start = start; end = end; rest = rest; hosts = h }))), t)
+  ends_of how.WriteFault drilled.NoMemory t h = (inr (inr (inr (record { start = start; end = end; rest = rest; hosts = h }))), t)
+  ends_of how.TooMuch drilled.TooMuch t h = ((record { start = start; end = end; rest = rest; hosts = h }, spent_all h), t)
   ends_of how.Dead drilled.Dead t h = (record { start = start; end = end; rest = rest; hosts = h }, t)
   ends_of how.Eof drilled.Dead t h = absurd (never_eof h)
   ends_of by d t h = elim t [ ]
@@ -307,21 +315,8 @@ module _ (rounds : ℕ) (few : rounds ≤ 10000) (start end old now : World) (p 
   counted vars clauses sat unsat by drilled.Done t h new e = elim t [ ]
   counted vars clauses sat unsat by d t h new e = absurd cc
 
-  shut_too_much : (h : Host how.TooMuch) → Shuts h.mid (standing q)
-  shut_too_much h = elim h.behind [ inl shut ↦ shut | inr none ↦ elim none.told [ ] ]
-
   shut_dead : (h : Host how.Dead) → Shuts h.mid (standing q)
   shut_dead h = elim h.behind [ inl shut ↦ shut | inr none ↦ elim none.told [ ] ]
-
-  calls_left : (mid : Standing) → Shuts mid (standing q) → mid.left ≡ 0 → 0 < q.left → ⊥
-  calls_left mid (inl shut) none some = let l = shut.left in omega arith
-  calls_left mid (inr same) none some = let l = ap (λ (s : Standing). s.left) same.1 in omega arith
-
-  not_too_much : Host how.TooMuch → length (script_text rounds) < 2 ^ 62 → 0 < q.left → ⊥
-  not_too_much h short some = elim h.session.served.ends.0 [
-    | inl many ↦ (let few = few_bytes rounds start end (standing p) h.mid stay read bye_last rest empty how.TooMuch h.session in omega arith)
-    | inr spent ↦ calls_left h.mid (shut_too_much h) spent.1 some
-  ]
 
   lost_dead : Host how.Dead → IsNew p → HasLostWork q.history
   lost_dead h new = lost_in h.session.entries h.mid (standing q) (h.session.history ∙ ap (λ es. es ++ h.session.entries) new.history) (shut_dead h) (h.lost refl (none_ended p.history new.history))
@@ -332,7 +327,7 @@ module _ (rounds : ℕ) (few : rounds ≤ 10000) (start end old now : World) (p 
   whole how.NoMemory drilled.NoMemory t h new u = absurd (u.memory refl)
   whole how.ReadFault drilled.NoMemory t h new u = absurd (u.memory refl)
   whole how.WriteFault drilled.NoMemory t h new u = absurd (u.memory refl)
-  whole how.TooMuch drilled.TooMuch t h new u = absurd (not_too_much h u.bytes_are_few u.calls)
+  whole how.TooMuch drilled.TooMuch t h new u = absurd (let none = spent_all h in let some = u.calls in omega arith)
   whole how.Dead drilled.Dead t h new u = absurd (u.work (lost_dead h new))
   whole how.Eof drilled.Dead t h new u = absurd (never_eof h)
   whole by d t h new u = elim t [ ]

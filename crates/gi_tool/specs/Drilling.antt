@@ -1,9 +1,8 @@
 -- How a drill ends the program.
-use Rattle.std.specs.Prelude.{◌≡◌, ◌≢◌, ℕ, ◌<◌, ◌≤◌, ◌^◌, ◌==◌, Bool, if◌then◌else◌, List, [], length, map, Option, Some}
+use Rattle.std.specs.Prelude.{◌≡◌, ◌≢◌, ℕ, ◌<◌, ◌≤◌, ◌==◌, ◌⊎◌, if◌then◌else◌, List, map, Some}
 use Rattle.gi_outside.specs.Link.{Rose}
 use Rattle.gi_outside.specs.World.{World, Wrote, WroteCut}
 use Rattle.gi_model.specs.History.{Entry}
-use Rattle.gi_model.specs.declared.calls.Call.{Call}
 use Rattle.gi_net.specs.Entries.{own_of}
 use Rattle.gi_net.specs.declared.how.How.{How}
 use Rattle.gi_net.specs.declared.how.How.TheVariants as how
@@ -33,11 +32,16 @@ pub record Plays (rounds : ℕ) (before after : Seen) (by : How) : Type 0 where
   pub rest : start.rest ≡ Some (script_text rounds)
   pub hosts : Hosts start end (standing before) (standing after) by
 
+-- There was no memory for the script, and nothing was called; or a session that read the script ended because it found no
+-- memory, or because its link found none for its tape, so that a read or a write failed.
+abbrev pub LacksMemory : ℕ → Seen → Seen → Type 0
+LacksMemory rounds before after = (after ≡ before) ⊎ Plays rounds before after how.NoMemory ⊎ Plays rounds before after how.ReadFault ⊎ Plays rounds before after how.WriteFault
+
 -- why it was no session that ended by its bye and was counted
 abbrev pub EndsEarly : Drilled → ℕ → Seen → Seen → Type 0
-EndsEarly drilled.TooMuch rounds before after = Plays rounds before after how.TooMuch
+EndsEarly drilled.TooMuch rounds before after = Plays rounds before after how.TooMuch × (after.left ≡ 0)
 EndsEarly drilled.Dead rounds before after = Plays rounds before after how.Dead
-EndsEarly drilled.NoMemory rounds before after = Unit {0}
+EndsEarly drilled.NoMemory rounds before after = LacksMemory rounds before after
 EndsEarly drilled.Done rounds before after = ⊥
 EndsEarly drilled.Cut rounds before after = ⊥
 
@@ -73,12 +77,11 @@ pub record AreCounted (rounds : ℕ) (after : Seen) : Type 0 where
   pub sat : (tally_of after.history).sat ≤ 2
   pub unsat : (tally_of after.history).unsat ≤ rounds
 
--- the premises of a complete drill: no fault, no want of memory, a script that isn't too long, calls left
+-- the premises of a complete drill: no fault, no want of memory, calls left
 pub record IsUndisturbed (by : Drilled) (rounds : ℕ) (old new : World) (after : Seen) : Type 0 where
   pub writes : ¬ Rose old.failed_writes new.failed_writes
   pub memory : by ≢ drilled.NoMemory
   pub work : ¬ HasLostWork after.history
-  pub bytes_are_few : length (script_text rounds) < 2 ^ 62
   pub calls : 0 < after.left
 
 -- the script was served on the pass, and its answers counted

@@ -5,7 +5,8 @@ ghost use Rattle.gi_tool.specs.Drilling.{HasDrilled, Tells, drilled_status};
 use crate::pass::Pass;
 use crate::serving::host;
 use gi_drill::{
-    Written, plan_satisfies, print_tally, script_is_read, script_is_taken, write_script,
+    Written, plan_satisfies, print_tally, script_is_read, script_is_short, script_is_taken,
+    write_script,
 };
 use gi_net::How;
 use gi_outside::{Link, MemoryLink};
@@ -19,11 +20,12 @@ pub enum Drilled {
     Done,
     /// It did, and a write of what was counted failed.
     Cut,
-    /// Memory was wanting: for the script, for the tape of its link, or for the session.
+    /// Memory was wanting: for the script, and then nothing was called, for the tape of its link, or for the session. Nothing
+    /// was printed.
     NoMemory,
-    /// No call was left for a line.
+    /// No call was left for a line. Nothing was printed.
     TooMuch,
-    /// The machine is over.
+    /// The machine is over: a call was refused for good. Nothing was printed.
     Dead,
 }
 
@@ -34,6 +36,7 @@ pub fn drill<L: Link>(alloc: Global, rounds: u32, pass: Pass, user: &mut L) -> (
 {
     plan_satisfies();
     script_is_read();
+    script_is_short();
     script_is_taken();
     items_stay();
     let Ok(script) = write_script(alloc, rounds) else {
@@ -61,7 +64,8 @@ fn tell<L: Link>(how: How, rounds: u32, pass: &Pass, user: &mut L) -> Drilled
     }
 }
 
-/// The exit status of a drill that ended so.
+/// The exit status of a drill that ended so: 0 where what was counted was printed, 5 where a write of it failed, 3 for want of
+/// memory, 8 where no call was left, 9 where the machine is over.
 pub fn status_of_drill(drilled: Drilled) -> u8
     ensures value { result ≡ drilled_status drilled }
     ensures not_two { result ≢ 2 }
