@@ -30,16 +30,23 @@ pub struct Outcome {
 /// `run`, also with `-q`, serves one session over `user`, and then shuts the machine where a call is left. The pass may have
 /// been used before. `check` and `convert`, each with `cnf` or `icnf` behind it, read `user` to its end and print the counts
 /// or the canonical text of what it says, or `refused LINE CODE` for its first fault. `solve`, also with `--budget N` behind the
-/// form (1 to 4,294,967,295, for each solve), reads `user` to its end, makes the calls of its solves on the pass, and prints
-/// `s SATISFIABLE` with a model's literals in `v` lines, `s UNSATISFIABLE` or `s UNKNOWN` for each.
-/// `drill N` (0 to 10,000) serves a script of 600 clauses and N rounds of a guard on the pass, and prints what it counts of the
-/// answers. No other words are a command.
+/// form (1 to 4,294,967,295, for each solve; else the greatest), reads `user` to its end, makes the calls of its solves on the
+/// pass, and prints `s SATISFIABLE` with a model's literals in `v` lines, `s UNSATISFIABLE` or `s UNKNOWN` for each; or the
+/// refusal, as `check` does. `drill N` (0 to 10,000) serves a script of 600 clauses and N rounds of a guard on the pass, and
+/// prints what it counts of the answers. No other words are a command.
 ///
-/// The status is 0 where the command did its work: where the session ended by `bye` or by the input's end, or the input was
-/// accepted, or its last solve wasn't answered within its budget or there was none. It is 10 and 20 where a last solve was
-/// satisfiable or unsatisfiable, 1 where the input was refused, 2 exactly where the words are no command, 3 for want of memory, 4 and 5
-/// where a read or a write of `user` failed, 8 where the session or the input was too much, and 9 where the machine is over, so
-/// that a call was refused for good.
+/// The status is
+/// - 0 where a session ended by `bye` or by the input's end, `check` or `convert` accepted the input, a drill printed what it
+///   counted, or the last solve of `solve` wasn't answered within its budget, or there was none;
+/// - 10 where the last solve was answered satisfiable, and 20 where it was answered unsatisfiable;
+/// - 1 where the input of `check`, `convert` or `solve` was refused;
+/// - 2 exactly where the words are no command; then nothing is read, written or called;
+/// - 3 for want of memory, in a drill for its script and its link too; and where the machine denied a call of `solve`, which
+///   a new machine does only where its work found no memory;
+/// - 4 only where a read of `user` failed, and 5 only where a write did;
+/// - 8 where no call of the pass was left, or 2^62 bytes of `user` were taken;
+/// - 9 where a call of a session or of a drill was refused for good: the machine was over before, or its work for a wait
+///   found no memory.
 pub fn run<L: Link>(
     alloc: Global,
     words: &[String],
@@ -87,7 +94,8 @@ pub fn run<L: Link>(
     }
 }
 
-/// The exit status of a session that ended so.
+/// The exit status of a session that ended so: 0 by `bye` or the input's end, 3 for want of memory, 4 and 5 for a read and a
+/// write that failed, 8 where no call was left or too many bytes came, 9 where the machine is over.
 fn status_of(how: How) -> u8
     ensures value { result ≡ exit_status how }
     ensures not_two { result ≢ 2 }
@@ -102,7 +110,8 @@ fn status_of(how: How) -> u8
     }
 }
 
-/// The exit status of a command over an input that ended so.
+/// The exit status of `check` or `convert` that ended so: 0 where the input was accepted, 1 where it was refused, 3 for want of
+/// memory, 4 and 5 for a read and a write that failed, 8 where too many bytes came.
 fn status_of_file(done: Done) -> u8
     ensures value { result ≡ done_status done }
     ensures whole { UndisturbedIsAnswered }
@@ -119,7 +128,7 @@ fn status_of_file(done: Done) -> u8
     }
 }
 
-/// What a status from 1 to 9 means, for people; nothing for every other status.
+/// What a status means, for people: a text for 1 to 5, 8 and 9, and for every other status, as those of an answer, none.
 pub fn fault_text(status: u8) -> &'static str {
     match status {
         1 => "input refused",

@@ -1,7 +1,6 @@
-use Rattle.std.proofs.Common.{◌≡◌, ◌<◌, List, length, get_or, ap, sym, ◌∙◌, subst}
+use Rattle.std.proofs.Common.{ap, sym, ◌∙◌}
 use Rattle.gi_drill.specs.Counting.{noted}
 use Rattle.gi_tool.specs.Seen.{Seen, history_of}
-use Rattle.gi_tool.specs.declared.entry.Entry.{Entry as Noted}
 use Rattle.gi_tool.proofs.Playing.{tally_more}
 use Rattle.gi_tool.proofs.pass.Pass.tally.Goals as goal
 

@@ -1,6 +1,5 @@
 use Rattle.std.proofs.Common.{◌≡◌, take}
 use Rattle.gi_drill.specs.Counting.{tally_of}
-use Rattle.gi_tool.specs.Seen.{history_of}
 use Rattle.gi_tool.proofs.pass.Pass.tally.Given as goal
 
 abbrev pub invariant-loop-entry : goal.invariant-loop-entry
