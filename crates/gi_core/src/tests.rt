@@ -1,4 +1,4 @@
-ghost use Rattle.std.specs.Prelude.{◌≡◌};
+ghost use Rattle.std.specs.Prelude.{◌≡◌, ◌<◌};
 
 use crate::Core;
 use gi_cdcl::Brake;
@@ -163,13 +163,35 @@ fn status_word(status: Status) -> &'static str {
     }
 }
 
-/// Whether the answer tells these numbers, where it tells literals or one number.
+/// How many clauses a solve under way has learnt, or 0.
+fn spent(status: Status) -> u32 {
+    match status {
+        Status::Running(spent) => spent,
+        Status::Paused(spent) => spent,
+        _ => 0,
+    }
+}
+
+/// Whether the first number is the solve's, and the others are its failing set.
+fn tells_failed(serial: u64, failed: &Lits, numbers: &[i32]) -> bool {
+    match numbers.split_first() {
+        Some((n, set)) => serial == u64::from(n.unsigned_abs()) && same(failed, set),
+        None => false,
+    }
+}
+
+/// Whether the answer tells these numbers, where it tells any.
 fn tells(reply: &Reply, numbers: &[i32]) -> bool {
     match reply {
         Reply::Implied(ls) => same(ls, numbers),
         Reply::Failed(ls) => same(ls, numbers),
         Reply::Reasons(ls) => same(ls, numbers),
-        Reply::Unsat { failed, .. } => same(failed, numbers),
+        Reply::Unsat { serial, failed } => tells_failed(*serial, failed, numbers),
+        Reply::Started(serial) => *serial == u64::from(first(numbers).unsigned_abs()),
+        Reply::Status { serial, status } => {
+            *serial == u64::from(first(numbers).unsigned_abs())
+                && spent(*status) == second(numbers).unsigned_abs()
+        }
         Reply::Model(ls) => same(ls, numbers),
         Reply::Clause(ls) => same(ls, numbers),
         Reply::Vars(n) => *n == first(numbers).unsigned_abs(),
@@ -231,6 +253,12 @@ fn ask(core: &mut Core, call: &Call) -> Result<Reply, Fail> {
     }
 }
 
+/// Whether a call is answered by this word, with these numbers.
+fn answers(core: &mut Core, call: &Call, word: &str, numbers: &[i32]) -> Result<bool, Fail> {
+    let reply = ask(core, call)?;
+    Ok(word_of(&reply) == word && tells(&reply, numbers))
+}
+
 /// The first row of a session that isn't answered as it says: a call with its numbers, and the answer with what it tells.
 fn first_wrong(
     alloc: Global,
@@ -239,21 +267,25 @@ fn first_wrong(
     let mut core = Core::new(alloc);
     for (place, row) in rows.iter().enumerate() {
         let call = call(alloc, row.0, row.1)?;
-        let reply = ask(&mut core, &call)?;
-        if word_of(&reply) != row.2 || !tells(&reply, row.3) {
+        if !answers(&mut core, &call, row.2, row.3)? {
             return Ok(Some(place));
         }
     }
     Ok(None)
 }
 
-/// Whether the work of a machine whose one solve has no clauses ends as this mark wants.
-fn works_at(alloc: Global, mark: u64) -> bool {
+/// Whether a machine with one variable is answered as it should be, and the work on its one solve ends as this mark wants.
+fn works_at(alloc: Global, mark: u64) -> Result<bool, Fail> {
     let mut core = Core::new(alloc);
-    let _ = core.step(&Call::Solve(5));
+    if !answers(&mut core, &Call::Vars(1), "vars", &[1])? {
+        return Ok(false);
+    }
+    if !answers(&mut core, &Call::Solve(5), "started", &[1])? {
+        return Ok(false);
+    }
     let mut brake = brake_at(mark);
     let work = core.work(&mut brake);
-    work.mark == mark && is_told(&work.reply, mark == 1)
+    Ok(work.mark == mark && is_told(&work.reply, mark == 1))
 }
 
 /// Whether the slice learnt nothing, and ended so.
@@ -265,9 +297,10 @@ fn is_told(reply: &Reply, stopped: bool) -> bool {
 }
 
 #[test]
-fn slices_of_work(rt: HostRuntime) {
-    assert!(rt; works_at(rt.alloc(), 0));
-    assert!(rt; works_at(rt.alloc(), 1));
+fn slices_of_work(rt: HostRuntime) -> Result<(), Fail> {
+    assert!(rt; works_at(rt.alloc(), 0)?);
+    assert!(rt; works_at(rt.alloc(), 1)?);
+    Ok(())
 }
 
 /// Whether the slice ended by mark 1, or else with a model.
@@ -293,17 +326,17 @@ fn each_call(rt: HostRuntime) -> Result<(), Fail> {
         ("untest", &[], "ok", &[]),
         ("reasons", &[3], "refused", &[11]),
         ("assume", &[1, 4], "ok", &[]),
-        ("solve", &[9], "started", &[]),
-        ("pause", &[], "paused", &[]),
+        ("solve", &[9], "started", &[1]),
+        ("pause", &[], "paused", &[1, 0]),
         ("drop", &[4], "refused", &[8]),
-        ("resume", &[], "running", &[]),
-        ("poll", &[], "running", &[]),
-        ("wait", &[], "unsat", &[1, 4]),
+        ("resume", &[], "running", &[1, 0]),
+        ("poll", &[], "running", &[1, 0]),
+        ("wait", &[], "unsat", &[1, 1, 4]),
         ("model", &[], "refused", &[13]),
         ("drop", &[4], "ok", &[]),
         ("assume", &[1], "ok", &[]),
-        ("solve", &[9], "started", &[]),
-        ("wait", &[], "sat", &[]),
+        ("solve", &[9], "started", &[2]),
+        ("wait", &[], "sat", &[2]),
         ("model", &[], "model", &[1, 2, 3]),
         ("bye", &[], "bye", &[]),
         ("shut", &[], "ok", &[]),
@@ -325,14 +358,14 @@ fn budgets_and_stops(rt: HostRuntime) -> Result<(), Fail> {
         ("add", &[-2, -4], "ok", &[]),
         ("add", &[-2, -6], "ok", &[]),
         ("add", &[-4, -6], "ok", &[]),
-        ("solve", &[1], "started", &[]),
-        ("wait", &[], "budget", &[]),
+        ("solve", &[1], "started", &[1]),
+        ("wait", &[], "budget", &[1]),
         ("known", &[], "known", &[1]),
         ("clause", &[2], "refused", &[14]),
-        ("solve", &[9], "started", &[]),
-        ("stop", &[], "stopped", &[]),
-        ("solve", &[9], "started", &[]),
-        ("wait", &[], "unsat", &[]),
+        ("solve", &[9], "started", &[2]),
+        ("stop", &[], "stopped", &[2]),
+        ("solve", &[9], "started", &[3]),
+        ("wait", &[], "unsat", &[3]),
         ("model", &[], "refused", &[13]),
     ];
     assert_eq!(rt; first_wrong(rt.alloc(), &rows)?, None);
@@ -345,9 +378,9 @@ fn loads(rt: HostRuntime) -> Result<(), Fail> {
         ("p cnf 2 1\n1 x 0\n", &[], "no number", &[2]),
         ("vars", &[0], "vars", &[0]),
         ("p cnf 2 2\n1 2 0\n-1 0\n", &[], "loaded", &[2, 2]),
-        ("solve", &[9], "started", &[]),
+        ("solve", &[9], "started", &[1]),
         ("p cnf 0 0\n", &[], "refused", &[4]),
-        ("wait", &[], "sat", &[]),
+        ("wait", &[], "sat", &[1]),
         ("model", &[], "model", &[-1, 2]),
         ("p cnf 3 0\n", &[], "loaded", &[3, 0]),
         ("model", &[], "refused", &[13]),
@@ -356,5 +389,97 @@ fn loads(rt: HostRuntime) -> Result<(), Fail> {
         ("vars", &[0], "vars", &[4]),
     ];
     assert_eq!(rt; first_wrong(rt.alloc(), &rows)?, None);
+    Ok(())
+}
+
+/// That a pigeon, from 0, is in a hole, from 0.
+fn sits(pigeon: u32, hole: u32) -> Result<Var, Fail>
+    requires { (pigeon < 7) × (hole < 6) }
+{
+    Ok(Var::new(6 * pigeon + hole + 1).ok_or("a variable")?)
+}
+
+/// That the pigeon is in one of the six holes.
+fn somewhere(alloc: Global, pigeon: u32) -> Result<Lits, Fail>
+    requires { pigeon < 7 }
+{
+    let mut clause = Lits::new(alloc);
+    for hole in 0..6u32 {
+        clause.push(sits(pigeon, hole)?.positive())?;
+    }
+    Ok(clause)
+}
+
+/// That two pigeons aren't both in the hole.
+fn apart(alloc: Global, one: u32, other: u32, hole: u32) -> Result<Lits, Fail>
+    requires { (one < 7) × (other < 7) × (hole < 6) }
+{
+    let mut clause = Lits::new(alloc);
+    clause.push(sits(one, hole)?.negative())?;
+    clause.push(sits(other, hole)?.negative())?;
+    Ok(clause)
+}
+
+/// Seven pigeons in six holes: each is in one.
+fn put_somewhere(alloc: Global, core: &mut Core) -> Result<(), Fail> {
+    for pigeon in 0..7u32 {
+        let _ = ask(core, &Call::Add(somewhere(alloc, pigeon)?))?;
+    }
+    Ok(())
+}
+
+/// And no two are in one.
+fn keep_apart(alloc: Global, core: &mut Core) -> Result<(), Fail> {
+    for place in 0..294u32 {
+        let (one, other, hole) = (place / 42, place / 6 % 7, place % 6);
+        if one < other {
+            let _ = ask(core, &Call::Add(apart(alloc, one, other, hole)?))?;
+        }
+    }
+    Ok(())
+}
+
+/// How many clauses the next slice of work learns, if it leaves its solve running, or 0.
+fn slice(core: &mut Core) -> usize {
+    let mut brake = brake_at(0);
+    let work = core.work(&mut brake);
+    match &work.reply {
+        Reply::Worked {
+            news,
+            now: Now::Live,
+        } => news.len(),
+        _ => 0,
+    }
+}
+
+/// Whether a solve that has learnt 64 clauses is paused and resumed.
+fn rests(core: &mut Core) -> Result<bool, Fail> {
+    if !answers(core, &Call::Pause, "paused", &[1, 64])? {
+        return Ok(false);
+    }
+    answers(core, &Call::Resume, "running", &[1, 64])
+}
+
+/// The first slice whose length isn't 32 times the Luby number of its place. Before the third the solve is paused and resumed.
+fn first_uneven(alloc: Global) -> Result<Option<usize>, Fail> {
+    let lengths: [usize; 7] = [32, 32, 64, 32, 32, 64, 128];
+    let mut core = Core::new(alloc);
+    put_somewhere(alloc, &mut core)?;
+    keep_apart(alloc, &mut core)?;
+    let _ = ask(&mut core, &Call::Solve(1_000_000))?;
+    for (place, length) in lengths.iter().enumerate() {
+        if place == 2 && !rests(&mut core)? {
+            return Ok(Some(place));
+        }
+        if slice(&mut core) != *length {
+            return Ok(Some(place));
+        }
+    }
+    Ok(None)
+}
+
+#[test]
+fn lengths_of_slices(rt: HostRuntime) -> Result<(), Fail> {
+    assert_eq!(rt; first_uneven(rt.alloc())?, None);
     Ok(())
 }
