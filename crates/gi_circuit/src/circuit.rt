@@ -1,5 +1,5 @@
 ghost use Rattle.std.specs.Prelude.{◌≡◌, ◌+◌, ◌/◌, ◌^◌, ◌<◌, ◌≤◌, ◌∷◌, ◌++◌, [], length, slice_set, count_by, ℕ, List, All, IfOk, OnOk, OnErr};
-ghost use Rattle.gi_circuit.specs.Nodes.{Parts, node_values, and_in, is_gate, IsMade, next_edge};
+ghost use Rattle.gi_circuit.specs.Nodes.{node_values, and_in, is_gate, IsMade, next_edge};
 ghost use Rattle.gi_circuit.specs.Import.{AreLevels, IsByLevel, system_of};
 ghost use Rattle.gi_circuit.specs.Importable.{IsImportable};
 ghost use Rattle.gi_circuit.specs.Systems.{empty_system, IsCircuit, input_added, latch_added};

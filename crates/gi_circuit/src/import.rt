@@ -1,5 +1,5 @@
 //! A circuit from what an AIGER file says.
-ghost use Rattle.std.specs.Prelude.{◌≡◌, ◌+◌, ◌/◌, ◌^◌, ◌<◌, ◌≤◌, ℕ, length, map, fold, slice_index, slice_set, All, IfOk, OnOk, OnErr};
+ghost use Rattle.std.specs.Prelude.{◌≡◌, ◌+◌, ◌/◌, ◌^◌, ◌<◌, ◌≤◌, ℕ, length, map, fold, slice_index, slice_set, All, IfOk, OnOk};
 ghost use Rattle.gi_aiger.specs.declared.aig.Latch.{Latch};
 ghost use Rattle.gi_circuit.specs.Frames.{edge_of};
 ghost use Rattle.gi_circuit.specs.Import.{Imported, imported_none, with_input_of, with_latch_of, with_gate_of, gate_at, finished};

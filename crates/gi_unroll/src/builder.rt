@@ -1,7 +1,7 @@
 //! What frames make: the shared circuit, its literals, and the clauses of the frame that is being made.
 ghost use Rattle.std.specs.Prelude.{◌≡◌, ◌==◌, ◌+◌, ◌-◌, ◌*◌, ◌/◌, ◌<◌, ◌≤◌, ◌∷◌, ◌++◌, [], length, take, map, fold, count_by, All, IfOk, OnOk, OnErr, if◌then◌else◌};
-ghost use Rattle.gi_circuit.specs.Nodes.{Parts, IsPlaced, IsOrdered, IsSound, is_gate};
-ghost use Rattle.gi_circuit.specs.Frames.{Draft, Along, lit_of, edge_of, with_choice, with_gate, with_node, input_along, reset_along, draft_of};
+ghost use Rattle.gi_circuit.specs.Nodes.{IsPlaced, IsOrdered, IsSound, is_gate};
+ghost use Rattle.gi_circuit.specs.Frames.{Draft, lit_of, edge_of, with_choice, with_gate, with_node, input_along, reset_along, draft_of};
 ghost use Rattle.gi_unroll.specs.Steps.{empty_draft, parts_of, frames_of, along, defined, IsReady, HasEdges, IsLonger};
 
 use crate::clauses::{push_gate, push_unit, variable};

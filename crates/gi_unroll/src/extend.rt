@@ -1,6 +1,5 @@
 //! A frame more, over the parts of what is unrolled.
 ghost use Rattle.std.specs.Prelude.{◌≡◌, ℕ, ◌+◌, ◌/◌, ◌<◌, ◌≤◌, [], length, map, All, IfOk, OnOk, OnErr};
-ghost use Rattle.gi_circuit.specs.Systems.{IsCircuit};
 ghost use Rattle.gi_circuit.specs.Frames.{lit_of, edge_of, input_along, latches_of, framed, frame_of};
 ghost use Rattle.gi_unroll.specs.Steps.{frames_of, along, IsReady, HasEdges, IsLonger};
 ghost use Rattle.gi_unroll.specs.Frames.{IsKept, most_of, IsFrame};

@@ -1,5 +1,4 @@
-ghost use Rattle.std.specs.Prelude.{◌≡◌, ◌+◌, ◌-◌, ◌/◌, ◌<◌, ◌≤◌, ◌++◌, [], length, All, IfOk, OnOk, OnErr};
-ghost use Rattle.gi_circuit.specs.Systems.{System};
+ghost use Rattle.std.specs.Prelude.{◌≡◌, ◌+◌, ◌<◌, ◌≤◌, [], IfOk, OnOk, OnErr};
 ghost use Rattle.gi_circuit.specs.Frames.{frame_of};
 ghost use Rattle.gi_circuit.specs.Encoding.{IsUnrolled};
 ghost use Rattle.gi_unroll.specs.Frames.{Unrolled, unrolled, most_of, IsFrame, with_frame, top_after, KeepsEncoding, KeepsLiterals, NamesVariables, IsShort};
