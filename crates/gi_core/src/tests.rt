@@ -460,18 +460,30 @@ fn rests(core: &mut Core) -> Result<bool, Fail> {
     answers(core, &Call::Resume, "running", &[1, 64])
 }
 
-/// The first slice whose length isn't 32 times the Luby number of its place. Before the third the solve is paused and resumed.
-fn first_uneven(alloc: Global) -> Result<Option<usize>, Fail> {
-    let lengths: [usize; 7] = [32, 32, 64, 32, 32, 64, 128];
+/// A machine that works on seven pigeons in six holes.
+fn crowded(alloc: Global) -> Result<Core, Fail> {
     let mut core = Core::new(alloc);
     put_somewhere(alloc, &mut core)?;
     keep_apart(alloc, &mut core)?;
     let _ = ask(&mut core, &Call::Solve(1_000_000))?;
-    for (place, length) in lengths.iter().enumerate() {
-        if place == 2 && !rests(&mut core)? {
-            return Ok(Some(place));
+    Ok(core)
+}
+
+/// Whether the next slice learns so many clauses. Before the third, the one at place 2, the solve is paused and resumed.
+fn learns(core: &mut Core, place: usize, length: usize) -> Result<bool, Fail> {
+    if place == 2 {
+        if !rests(core)? {
+            return Ok(false);
         }
-        if slice(&mut core) != *length {
+    }
+    Ok(slice(core) == length)
+}
+
+/// The first slice whose length isn't 32 times the Luby number of its place.
+fn first_uneven(core: &mut Core) -> Result<Option<usize>, Fail> {
+    let lengths: [usize; 7] = [32, 32, 64, 32, 32, 64, 128];
+    for (place, length) in lengths.iter().enumerate() {
+        if !learns(core, place, *length)? {
             return Ok(Some(place));
         }
     }
@@ -480,6 +492,7 @@ fn first_uneven(alloc: Global) -> Result<Option<usize>, Fail> {
 
 #[test]
 fn lengths_of_slices(rt: HostRuntime) -> Result<(), Fail> {
-    assert_eq!(rt; first_uneven(rt.alloc())?, None);
+    let mut core = crowded(rt.alloc())?;
+    assert_eq!(rt; first_uneven(&mut core)?, None);
     Ok(())
 }
