@@ -1,17 +1,18 @@
 -- The unit closures of the full clauses and of the clauses in force agree on problem literals.
-use Rattle.std.proofs.Common.{◌≡◌, ◌≢◌, ℕ, zero, suc, ◌+◌, ◌*◌, ◌/◌, ◌<◌, Bool, true, false, List, [], ◌∷◌, ◌++◌, length, take, get_or, refl, sym, ap, ◌∙◌, subst, arith, ◌⊎◌, inl, inr, add-one, cond}
+use Rattle.std.proofs.Common.{◌≡◌, ◌≢◌, ℕ, zero, suc, ◌+◌, ◌*◌, ◌/◌, ◌<◌, Bool, true, false, List, [], ◌∷◌, ◌++◌, length, take, get_or, refl, sym, ap, ◌∙◌, subst, arith, ◌⊎◌, inl, inr, add-one}
 use Rattle.std.specs.List.{All, Contains}
 use Rattle.std.proofs.lemmas.Bool.{cases_lt, cases_eq}
 use Rattle.std.proofs.lemmas.List.{take_all, get_or_default}
-use Rattle.std.proofs.lemmas.List.Elements.{All-append, All-cons, All-nil, All-contains, All-contains_itself, All-weaker, All-more, All-head, All-tail, Contains-append_left, Contains-push, Contains-get_or}
+use Rattle.std.proofs.lemmas.List.Elements.{All-nil, All-contains, All-contains_itself, All-weaker, All-more, Contains-append_left, Contains-push, Contains-get_or}
 use Rattle.gi_lit.specs.Literals.{opposite}
 use Rattle.gi_lit.specs.Closure.{Forces, IsFalsified, IsStep, IsDerivation, InClosure, Clashes, Conflicts}
-use Rattle.gi_lit.specs.Problem.{Pair, Problem, has, forced, force, full, IsPlain, IsWellFormed, IsProblemVar, IsAssumable}
-use Rattle.gi_lit.specs.Laws.{IsReleased, ClosuresAgree, ConflictsAgree}
+use Rattle.gi_lit.specs.Problem.{Problem, has, force, full, IsPlain, IsWellFormed, IsProblemVar, IsAssumable}
+use Rattle.gi_lit.specs.Guards.{IsGiven, IsLess, IsAsleep, IsGuardedLit}
+use Rattle.gi_lit.specs.Laws.{ClosuresAgree, ConflictsAgree}
 use Rattle.gi_lit.proofs.Literals.{opposite-opposite, var-opposite}
 use Rattle.gi_lit.proofs.Closure.{given_derives, IsDerivation-push}
 use Rattle.gi_lit.proofs.Vars.{var_facts, Contains-from_has, lacks_none}
-use Rattle.gi_lit.proofs.Releasing.{guards_negative, forced_are_full, others_are_held}
+use Rattle.gi_lit.proofs.Resting.{rests}
 
 pub opposite-odd : (g : ℕ) → opposite (2 * g + 1) ≡ 2 * g
 unfolding opposite
@@ -37,30 +38,30 @@ covers_more clauses given lits n lt r s = record {
 
 module _ (p : Problem) (given : List ℕ) (h : IsWellFormed p) (ok : All (IsAssumable p) given) where
   abbrev Whole : List ℕ → Type 0
-  Whole d = (c : List ℕ) × Contains (full p) c × IsReleased p given d c
+  Whole d = (c : List ℕ) × Contains (full p) c × IsLess p given c d
 
   whole_of : (d : List ℕ) → Contains (force p given) d → Whole d
-  whole_of d c = All-contains Whole (force p given) d (forced_are_full p given h) c
+  whole_of d c = (rests p given h).in_force d c
 
   abbrev Told : List ℕ → Type 0
-  Told c = ((d : List ℕ) × Contains (force p given) d × IsReleased p given d c) ⊎ ((g : ℕ) × Contains p.active g × Contains c (2 * g + 1) × ¬ Contains given (2 * g))
+  Told c = ((d : List ℕ) × Contains (force p given) d × IsLess p given c d) ⊎ IsAsleep p given c
 
   told_of : (c : List ℕ) → Contains (full p) c → Told c
-  told_of c a = All-contains Told (full p) c (others_are_held p given h) a
+  told_of c a = (rests p given h).others c a
 
   -- a released literal's opposite is given
-  is_given : (e : List ℕ) (m : ℕ) → All (Contains e) given → (g : ℕ) × Contains p.active g × Contains given (2 * g) × (m ≡ 2 * g + 1) → Contains e (opposite m)
-  is_given e m a r = subst (Contains e) (sym (ap opposite r.3 ∙ opposite-odd r.0)) (All-contains (Contains e) given (2 * r.0) a r.2)
+  is_given : (e : List ℕ) (m : ℕ) → All (Contains e) given → IsGiven p given m → Contains e (opposite m)
+  is_given e m a r = subst (Contains e) (sym (ap opposite r.negative ∙ opposite-odd r.guard)) (All-contains (Contains e) given (2 * r.guard) a r.stands)
 
   -- from the clauses in force to the full ones
   full_step : (earlier e : List ℕ) (l : ℕ) → IsStep (force p given) given earlier l → All (Contains e) earlier → All (Contains e) given → IsStep (full p) given e l
   full_step earlier e l (inl a) before starts = inl a
-  full_step earlier e l (inr s) before starts = inr (w.0, w.1, record { stands = All-contains (Contains w.0) s.0 l w.2.inside s.2.stands; others = λ k d lt. other (get_or w.0 k d) (w.2.others k d lt) })
+  full_step earlier e l (inr s) before starts = inr (w.0, w.1, record { stands = All-contains (Contains w.0) s.0 l w.2.part s.2.stands; others = λ k d lt. other (get_or w.0 k d) (w.2.others k d lt) })
     where
       w : Whole s.0
       w = whole_of s.0 s.1
 
-      other : (m : ℕ) → Contains s.0 m ⊎ ((g : ℕ) × Contains p.active g × Contains given (2 * g) × (m ≡ 2 * g + 1)) → (m ≡ l) ⊎ Contains e (opposite m)
+      other : (m : ℕ) → Contains s.0 m ⊎ IsGiven p given m → (m ≡ l) ⊎ Contains e (opposite m)
       other m (inl inside) = elim (All-contains (λ m. (m ≡ l) ⊎ Contains earlier (opposite m)) s.0 m s.2.others inside) [ inl same ↦ inl same | inr b ↦ inr (All-contains (Contains e) earlier (opposite m) before b) ]
       other m (inr r) = inr (is_given e m starts r)
 
@@ -81,7 +82,7 @@ module _ (p : Problem) (given : List ℕ) (h : IsWellFormed p) (ok : All (IsAssu
       w : Whole x.0
       w = whole_of x.0 x.1
 
-      other : (m : ℕ) → Contains x.0 m ⊎ ((g : ℕ) × Contains p.active g × Contains given (2 * g) × (m ≡ 2 * g + 1)) → Contains e (opposite m)
+      other : (m : ℕ) → Contains x.0 m ⊎ IsGiven p given m → Contains e (opposite m)
       other m (inl inside) = All-contains (Contains e) lits (opposite m) covers (All-contains (λ m. Contains lits (opposite m)) x.0 m x.2 inside)
       other m (inr r) = is_given e m starts r
 
@@ -92,20 +93,8 @@ module _ (p : Problem) (given : List ℕ) (h : IsWellFormed p) (ok : All (IsAssu
   closure_in_full l c = let r = full_covers c.lits c.derived in record { lits = r.derivation; derived = r.derived; stands = All-contains (Contains r.derivation) c.lits l r.covers c.stands }
 
   -- from the full clauses to those in force
-  forced_plain : (ps : List Pair) → All (λ (q : Pair). IsPlain p q.clause) ps → All (IsPlain p) (forced given ps)
-  forced_plain [] a = All-nil (IsPlain p)
-  forced_plain (q ∷ ps) a = go (forced_plain ps (All-tail (λ (q : Pair). IsPlain p q.clause) q ps a)) (All-head (λ (q : Pair). IsPlain p q.clause) q ps a) (has given (2 * q.guard))
-    where
-      go : All (IsPlain p) (forced given ps) → IsPlain p q.clause → (b : Bool) → All (IsPlain p) (cond b (q.clause ∷ forced given ps) (forced given ps))
-      go rest first true = All-cons (IsPlain p) q.clause (forced given ps) first rest
-      go rest first false = rest
-
-  force_plain : All (IsPlain p) (force p given)
-  unfolding force
-  force_plain = All-append (IsPlain p) p.plain (forced given p.pairs) h.plain (forced_plain p.pairs h.pairs)
-
   in_force_plain : (d : List ℕ) (m : ℕ) → Contains (force p given) d → Contains d m → IsProblemVar p (m / 2)
-  in_force_plain d m c a = All-contains (λ l. IsProblemVar p (l / 2)) d m (All-contains (IsPlain p) (force p given) d force_plain c) a
+  in_force_plain d m c a = All-contains (λ l. IsProblemVar p (l / 2)) d m (All-contains (IsPlain p) (force p given) d (rests p given h).plain c) a
 
   no_guard : (g v : ℕ) → Contains p.active g → IsProblemVar p v → v ≢ g
   no_guard g v act pv e = (var_facts p v pv).inactive (subst (Contains p.active) (sym e) act)
@@ -171,11 +160,11 @@ module _ (p : Problem) (given : List ℕ) (h : IsWellFormed p) (ok : All (IsAssu
     here m a = All-contains (Mirrored r.derivation) earlier m r.mirrored a
 
     -- a clause in force, where the whole clause forces l or is false
-    others_here : (d c : List ℕ) (l : ℕ) → Contains (force p given) d → IsReleased p given d c → Forces c l earlier → All (λ m. (m ≡ l) ⊎ Contains r.derivation (opposite m)) d
+    others_here : (d c : List ℕ) (l : ℕ) → Contains (force p given) d → IsLess p given c d → Forces c l earlier → All (λ m. (m ≡ l) ⊎ Contains r.derivation (opposite m)) d
     others_here d c l a rel f k x lt = go (get_or d k x) (Contains-get_or d k x lt)
       where
         go : (m : ℕ) → Contains d m → (m ≡ l) ⊎ Contains r.derivation (opposite m)
-        go m b = elim (All-contains (λ m. (m ≡ l) ⊎ Contains earlier (opposite m)) c m f.others (All-contains (Contains c) d m rel.inside b)) [
+        go m b = elim (All-contains (λ m. (m ≡ l) ⊎ Contains earlier (opposite m)) c m f.others (All-contains (Contains c) d m rel.part b)) [
           | inl same ↦ inl same
           | inr before ↦ inr (mirrored_plain r.derivation m (in_force_plain d m a b) (here (opposite m) before))
         ]
@@ -192,7 +181,7 @@ module _ (p : Problem) (given : List ℕ) (h : IsWellFormed p) (ok : All (IsAssu
     denies c l a f act = record { guard = l / 2; active = act; is = odd; conflict = λ giv. go giv (told_of c a) }
       where
         odd : l ≡ 2 * (l / 2) + 1
-        odd = All-contains (λ m. Contains p.active (m / 2) → m ≡ 2 * (m / 2) + 1) c l (All-contains (λ c. All (λ m. Contains p.active (m / 2) → m ≡ 2 * (m / 2) + 1) c) (full p) c (guards_negative p h) a) f.stands act
+        odd = (All-contains (IsGuardedLit p) c l (All-contains (All (IsGuardedLit p)) (full p) c (rests p given h).lits a) f.stands).negative act
 
         go : Contains given (2 * (l / 2)) → Told c → (d : List ℕ) × Contains (force p given) d × IsFalsified r.derivation d
         go giv (inl t) = (
@@ -203,9 +192,9 @@ module _ (p : Problem) (given : List ℕ) (h : IsWellFormed p) (ok : All (IsAssu
             | inr before ↦ before
           ],
         )
-        go giv (inr t) = absurd (elim (cases_eq l (2 * t.0 + 1)) [
-          | inl same ↦ t.3 (subst (λ g. Contains given (2 * g)) (let s = same in omega arith) giv)
-          | inr n ↦ t.3 (no_other c l t.0 f t.1 t.2 n)
+        go giv (inr t) = absurd (elim (cases_eq l (2 * t.guard + 1)) [
+          | inl same ↦ t.missing (subst (λ g. Contains given (2 * g)) (let s = same in omega arith) giv)
+          | inr n ↦ t.missing (no_other c l t.guard f t.active t.negative n)
         ])
 
     -- l is of no active guard: a clause in force forces it
@@ -213,8 +202,8 @@ module _ (p : Problem) (given : List ℕ) (h : IsWellFormed p) (ok : All (IsAssu
     forces_here c l a f n = go (told_of c a)
       where
         go : Told c → IsStep (force p given) given r.derivation l
-        go (inl t) = inr (t.0, t.1, record { stands = elim (All-contains (λ m. Contains t.0 m ⊎ ((g : ℕ) × Contains p.active g × Contains given (2 * g) × (m ≡ 2 * g + 1))) c l t.2.others f.stands) [ inl b ↦ b | inr g ↦ absurd (n (subst (Contains p.active) (let e = g.3 in omega arith) g.1)) ]; others = others_here t.0 c l t.1 t.2 f })
-        go (inr t) = absurd (t.3 (no_other c l t.0 f t.1 t.2 (λ e. n (subst (Contains p.active) (let s = e in omega arith) t.1))))
+        go (inl t) = inr (t.0, t.1, record { stands = elim (All-contains (λ m. Contains t.0 m ⊎ IsGiven p given m) c l t.2.others f.stands) [ inl b ↦ b | inr g ↦ absurd (n (subst (Contains p.active) (let e = g.negative in omega arith) g.active)) ]; others = others_here t.0 c l t.1 t.2 f })
+        go (inr t) = absurd (t.missing (no_other c l t.guard f t.active t.negative (λ e. n (subst (Contains p.active) (let s = e in omega arith) t.active))))
 
   mirror_step : (lits : List ℕ) (n : ℕ) → n < length lits → (r : Mirror (take n lits)) → IsStep (full p) given (take n lits) (get_or lits n 0) → Mirror (take (suc n) lits)
   mirror_step lits n lt r (inl a) = mirror_push lits n lt r (inl a)
@@ -261,8 +250,8 @@ module _ (p : Problem) (given : List ℕ) (h : IsWellFormed p) (ok : All (IsAssu
       go (inr x) = one (told_of x.0 x.1)
         where
           one : Told x.0 → Clashes (force p given) r.derivation
-          one (inl t) = inr (t.0, t.1, λ k y lt. mirrored_plain r.derivation (get_or t.0 k y) (in_force_plain t.0 (get_or t.0 k y) t.1 (Contains-get_or t.0 k y lt)) (here c.lits r (opposite (get_or t.0 k y)) (All-contains (λ m. Contains c.lits (opposite m)) x.0 (get_or t.0 k y) x.2 (t.2.inside k y lt))))
-          one (inr t) = absurd (t.3 (guard_given r.derivation r.derived t.0 t.1 (mirrored_guard r.derivation t.0 (here c.lits r (2 * t.0) (subst (Contains c.lits) (opposite-odd t.0) (All-contains (λ m. Contains c.lits (opposite m)) x.0 (2 * t.0 + 1) x.2 t.2))))))
+          one (inl t) = inr (t.0, t.1, λ k y lt. mirrored_plain r.derivation (get_or t.0 k y) (in_force_plain t.0 (get_or t.0 k y) t.1 (Contains-get_or t.0 k y lt)) (here c.lits r (opposite (get_or t.0 k y)) (All-contains (λ m. Contains c.lits (opposite m)) x.0 (get_or t.0 k y) x.2 (t.2.part k y lt))))
+          one (inr t) = absurd (t.missing (guard_given r.derivation r.derived t.guard t.active (mirrored_guard r.derivation t.guard (here c.lits r (2 * t.guard) (subst (Contains c.lits) (opposite-odd t.guard) (All-contains (λ m. Contains c.lits (opposite m)) x.0 (2 * t.guard + 1) x.2 t.negative))))))
 
 pub closures_agree : ClosuresAgree
 closures_agree p given h ok l pv = (closure_in_force p given h ok l pv, closure_in_full p given h ok l)

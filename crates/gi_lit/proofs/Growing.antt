@@ -1,9 +1,9 @@
 -- What a problem keeps when it grows.
-use Rattle.std.proofs.Common.{◌≡◌, ℕ, ◌+◌, ◌*◌, ◌/◌, ◌<◌, ◌≤◌, Bool, true, false, cond, nat_eq, List, [], ◌∷◌, ◌++◌, map, get_or, refl, sym, ap, subst, arith, ◌⊎◌, inl, inr}
-use Rattle.std.specs.List.{All, Contains, list_any}
+use Rattle.std.proofs.Common.{◌≡◌, ℕ, ◌+◌, ◌/◌, ◌<◌, ◌≤◌, Bool, true, false, cond, List, [], ◌∷◌, ◌++◌, length, map, get_or, refl, sym, ap, subst, arith, ◌⊎◌, inl, inr}
+use Rattle.std.specs.List.{All, Contains}
 use Rattle.std.proofs.lemmas.List.Elements.{All-head, All-tail, All-contains, All-weaker, All-push, Contains-get_or, Contains-append_left, Contains-append_right, Contains-append_cases, Contains-push_cases}
 use Rattle.gi_lit.specs.Truth.{clause_true, Satisfies, Fail}
-use Rattle.gi_lit.specs.Problem.{Pair, forced, guarded, Problem, force, full, top, grown, with_clause, with_pair, IsProblemVar, IsPlain, IsWellFormed, IsLiveVar, IsAssumable, guard_made}
+use Rattle.gi_lit.specs.Problem.{Group, are_given, forced, guarded, Problem, force, full, top, grown, with_clause, with_group, IsProblemVar, IsPlain, IsGroup, IsWellFormed, IsLiveVar, IsAssumable, guard_made}
 use Rattle.gi_lit.specs.Learnt.{IsImplied}
 use Rattle.gi_lit.specs.Lists.{IsDistinct}
 use Rattle.gi_lit.proofs.Tops.{top_bounds}
@@ -36,6 +36,9 @@ module _ (p q : Problem) (g : Grows p q) where
   pub plain_grows : (c : List ℕ) → IsPlain p c → IsPlain q c
   plain_grows c h = All-weaker (λ l. IsProblemVar p (l / 2)) (λ l. IsProblemVar q (l / 2)) (λ l. g.vars (l / 2)) c h
 
+  pub group_grows : (r : Group) → IsGroup p r → IsGroup q r
+  group_grows r h = (plain_grows r.clause h.0, All-weaker (Contains p.active) (Contains q.active) g.active r.guards h.1, h.2)
+
 -- variables
 pub grows_grown : (n : ℕ) (p : Problem) → Grows p (grown n p)
 unfolding full force
@@ -50,8 +53,7 @@ grows_grown n p = record {
 pub IsWellFormed-grown : (n : ℕ) (p : Problem) → IsWellFormed p → IsWellFormed (grown n p)
 IsWellFormed-grown n p h = record {
   plain = All-weaker (IsPlain p) (IsPlain (grown n p)) (plain_grows p (grown n p) (grows_grown n p)) p.plain h.plain;
-  pairs = All-weaker (λ (q : Pair). IsPlain p q.clause) (λ (q : Pair). IsPlain (grown n p) q.clause) (λ q. plain_grows p (grown n p) (grows_grown n p) q.clause) p.pairs h.pairs;
-  guards = h.guards;
+  groups = All-weaker (IsGroup p) (IsGroup (grown n p)) (group_grows p (grown n p) (grows_grown n p)) p.groups h.groups;
   distinct = h.distinct;
   low = h.low;
   high = λ k d lt. let a = h.high k d lt in omega arith;
@@ -80,60 +82,58 @@ grows_clause c p = record {
   vars = (grows_grown (top c) p).vars;
   live = (grows_grown (top c) p).live;
   active = λ g h. h;
-  full = λ d h. elim (Contains-append_cases p.plain (map guarded p.pairs) d h) [
-    | inl a ↦ Contains-append_left (p.plain ++ c ∷ []) (map guarded p.pairs) d (Contains-append_left p.plain (c ∷ []) d a)
-    | inr b ↦ Contains-append_right (p.plain ++ c ∷ []) (map guarded p.pairs) d b
+  full = λ d h. elim (Contains-append_cases p.plain (map guarded p.groups) d h) [
+    | inl a ↦ Contains-append_left (p.plain ++ c ∷ []) (map guarded p.groups) d (Contains-append_left p.plain (c ∷ []) d a)
+    | inr b ↦ Contains-append_right (p.plain ++ c ∷ []) (map guarded p.groups) d b
   ];
-  force = λ given d h. elim (Contains-append_cases p.plain (forced given p.pairs) d h) [
-    | inl a ↦ Contains-append_left (p.plain ++ c ∷ []) (forced given p.pairs) d (Contains-append_left p.plain (c ∷ []) d a)
-    | inr b ↦ Contains-append_right (p.plain ++ c ∷ []) (forced given p.pairs) d b
+  force = λ given d h. elim (Contains-append_cases p.plain (forced given p.groups) d h) [
+    | inl a ↦ Contains-append_left (p.plain ++ c ∷ []) (forced given p.groups) d (Contains-append_left p.plain (c ∷ []) d a)
+    | inr b ↦ Contains-append_right (p.plain ++ c ∷ []) (forced given p.groups) d b
   ];
 }
 
 pub IsWellFormed-clause : (c : List ℕ) (p : Problem) → All (IsUsable p) c → IsWellFormed p → IsWellFormed (with_clause c p)
 IsWellFormed-clause c p u h =
     let g = IsWellFormed-grown (top c) p h in
-    record { plain = All-push (IsPlain (with_clause c p)) p.plain c g.plain (usable_plain p c h u); pairs = g.pairs; guards = g.guards; distinct = g.distinct; low = g.low; high = g.high }
+    record { plain = All-push (IsPlain (with_clause c p)) p.plain c g.plain (usable_plain p c h u); groups = g.groups; distinct = g.distinct; low = g.low; high = g.high }
 
--- a pair more
-map_push : (ps : List Pair) (q : Pair) (d : List ℕ) → Contains (map guarded ps) d → Contains (map guarded (ps ++ q ∷ [])) d
-map_push ps q d h = subst (λ cs. Contains cs d) (sym (same ps)) (Contains-append_left (map guarded ps) (guarded q ∷ []) d h)
+-- a group more
+map_push : (qs : List Group) (q : Group) (d : List ℕ) → Contains (map guarded qs) d → Contains (map guarded (qs ++ q ∷ [])) d
+map_push qs q d h = subst (λ cs. Contains cs d) (sym (same qs)) (Contains-append_left (map guarded qs) (guarded q ∷ []) d h)
   where
-    same : (rs : List Pair) → map guarded (rs ++ q ∷ []) ≡ map guarded rs ++ guarded q ∷ []
+    same : (rs : List Group) → map guarded (rs ++ q ∷ []) ≡ map guarded rs ++ guarded q ∷ []
     same [] = refl
     same (r ∷ rs) = ap (λ cs. guarded r ∷ cs) (same rs)
 
-forced_push : (given : List ℕ) (ps : List Pair) (q : Pair) → forced given (ps ++ q ∷ []) ≡ forced given ps ++ forced given (q ∷ [])
+forced_push : (given : List ℕ) (qs : List Group) (q : Group) → forced given (qs ++ q ∷ []) ≡ forced given qs ++ forced given (q ∷ [])
 forced_push given [] q = refl
-forced_push given (p ∷ ps) q = go (list_any (nat_eq (2 * p.guard)) given) (forced_push given ps q)
+forced_push given (p ∷ ps) q = go (are_given given p.guards) (forced_push given ps q)
   where
     go : (b : Bool) → forced given (ps ++ q ∷ []) ≡ forced given ps ++ forced given (q ∷ [])
         → cond b (p.clause ∷ forced given (ps ++ q ∷ [])) (forced given (ps ++ q ∷ [])) ≡ cond b (p.clause ∷ forced given ps) (forced given ps) ++ forced given (q ∷ [])
     go true e = ap (λ cs. p.clause ∷ cs) e
     go false e = e
 
-pub grows_pair : (g : ℕ) (c : List ℕ) (p : Problem) → Grows p (with_pair g c p)
+pub grows_group : (gs c : List ℕ) (p : Problem) → Grows p (with_group gs c p)
 unfolding full force
-grows_pair g c p = record {
+grows_group gs c p = record {
   vars = (grows_grown (top c) p).vars;
   live = (grows_grown (top c) p).live;
   active = λ g h. h;
-  full = λ d h. elim (Contains-append_cases p.plain (map guarded p.pairs) d h) [
-    | inl a ↦ Contains-append_left p.plain (map guarded (with_pair g c p).pairs) d a
-    | inr b ↦ Contains-append_right p.plain (map guarded (with_pair g c p).pairs) d (map_push p.pairs _ d b)
+  full = λ d h. elim (Contains-append_cases p.plain (map guarded p.groups) d h) [
+    | inl a ↦ Contains-append_left p.plain (map guarded (with_group gs c p).groups) d a
+    | inr b ↦ Contains-append_right p.plain (map guarded (with_group gs c p).groups) d (map_push p.groups _ d b)
   ];
-  force = λ given d h. elim (Contains-append_cases p.plain (forced given p.pairs) d h) [
-    | inl a ↦ Contains-append_left p.plain (forced given (with_pair g c p).pairs) d a
-    | inr b ↦ Contains-append_right p.plain (forced given (with_pair g c p).pairs) d (subst (λ cs. Contains cs d) (sym (forced_push given p.pairs _)) (Contains-append_left (forced given p.pairs) _ d b))
+  force = λ given d h. elim (Contains-append_cases p.plain (forced given p.groups) d h) [
+    | inl a ↦ Contains-append_left p.plain (forced given (with_group gs c p).groups) d a
+    | inr b ↦ Contains-append_right p.plain (forced given (with_group gs c p).groups) d (subst (λ cs. Contains cs d) (sym (forced_push given p.groups _)) (Contains-append_left (forced given p.groups) _ d b))
   ];
 }
 
-pub IsWellFormed-pair : (g : ℕ) (c : List ℕ) (p : Problem) → Contains p.active g → All (IsUsable p) c → IsWellFormed p → IsWellFormed (with_pair g c p)
-IsWellFormed-pair g c p a u h =
+pub IsWellFormed-group : (gs c : List ℕ) (p : Problem) → 0 < length gs → All (Contains p.active) gs → All (IsUsable p) c → IsWellFormed p → IsWellFormed (with_group gs c p)
+IsWellFormed-group gs c p some a u h =
     let w = IsWellFormed-grown (top c) p h in
-    let P : Pair → Type 0 = λ q. IsPlain (with_pair g c p) q.clause in
-    let G : Pair → Type 0 = λ q. Contains p.active q.guard in
-    record { plain = w.plain; pairs = All-push P p.pairs _ w.pairs (usable_plain p c h u); guards = All-push G p.pairs _ w.guards a; distinct = w.distinct; low = w.low; high = w.high }
+    record { plain = w.plain; groups = All-push (IsGroup (with_group gs c p)) p.groups _ w.groups (usable_plain p c h u, a, some); distinct = w.distinct; low = w.low; high = w.high }
 
 -- a guard more
 pub grows_guard : (p : Problem) (fs : List ℕ) → p.freed ≡ fs → IsWellFormed p → Grows p (guard_made p fs)
@@ -161,8 +161,7 @@ IsWellFormed-guard p [] e h =
     let hi : All (λ x. x ≤ p.vars) p.active = rw e at h.high in
     record {
       plain = All-weaker (IsPlain p) (IsPlain (guard_made p [])) (plain_grows p (guard_made p []) g) p.plain h.plain;
-      pairs = All-weaker (λ (q : Pair). IsPlain p q.clause) (λ (q : Pair). IsPlain (guard_made p []) q.clause) (λ q. plain_grows p (guard_made p []) g q.clause) p.pairs h.pairs;
-      guards = All-weaker (λ (q : Pair). Contains p.active q.guard) (λ (q : Pair). Contains (p.active ++ (p.vars + 1) ∷ []) q.guard) (λ q a. Contains-append_left p.active ((p.vars + 1) ∷ []) q.guard a) p.pairs h.guards;
+      groups = All-weaker (IsGroup p) (IsGroup (guard_made p [])) (group_grows p (guard_made p []) g) p.groups h.groups;
       distinct = rw e (IsDistinct-push p.active (p.vars + 1) (λ c. let b : p.vars + 1 ≤ p.vars = All-contains (λ x. x ≤ p.vars) p.active _ hi c in omega arith) d);
       low = rw e (All-push (λ x. 1 ≤ x) p.active (p.vars + 1) lo (omega arith));
       high = rw e (All-push (λ x. x ≤ p.vars + 1) p.active (p.vars + 1) (All-weaker (λ x. x ≤ p.vars) (λ x. x ≤ p.vars + 1) (λ x b. omega arith) p.active hi) (omega arith));
@@ -172,8 +171,7 @@ IsWellFormed-guard p (g ∷ gs) e h =
     let d : IsDistinct (g ∷ (gs ++ p.active)) = rw e at h.distinct in
     record {
       plain = All-weaker (IsPlain p) (IsPlain (guard_made p (g ∷ gs))) (plain_grows p (guard_made p (g ∷ gs)) w) p.plain h.plain;
-      pairs = All-weaker (λ (q : Pair). IsPlain p q.clause) (λ (q : Pair). IsPlain (guard_made p (g ∷ gs)) q.clause) (λ q. plain_grows p (guard_made p (g ∷ gs)) w q.clause) p.pairs h.pairs;
-      guards = All-weaker (λ (q : Pair). Contains p.active q.guard) (λ (q : Pair). Contains (p.active ++ g ∷ []) q.guard) (λ q a. Contains-append_left p.active (g ∷ []) q.guard a) p.pairs h.guards;
+      groups = All-weaker (IsGroup p) (IsGroup (guard_made p (g ∷ gs))) (group_grows p (guard_made p (g ∷ gs)) w) p.groups h.groups;
       distinct = IsDistinct-turned g gs p.active d;
       low = turned (λ x. 1 ≤ x) (rw e at h.low);
       high = turned (λ x. x ≤ p.vars) (rw e at h.high);

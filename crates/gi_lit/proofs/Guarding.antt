@@ -1,70 +1,61 @@
-use Rattle.std.proofs.Common.{◌≡◌, ◌≢◌, ℕ, ◌+◌, ◌-◌, ◌*◌, ◌/◌, ◌%◌, ◌≤◌, Bool, true, false, not, cond, ◌||◌, nat_eq, List, [], ◌∷◌, ◌++◌, length, map, get_or, set, refl, sym, ◌∙◌, subst, arith, ◌⊎◌, inl, inr, get_or-set_other, get_or-set_same}
-use Rattle.std.specs.List.{All, Contains, list_any}
-use Rattle.std.proofs.lemmas.Bool.{cases_eq, cases_lt, eqb-true, eq-eqb, false≢true, ne_eqb, or_left, or_right}
+-- Making guards that aren't given false.
+use Rattle.std.proofs.Common.{◌≡◌, ◌≢◌, ℕ, ◌+◌, ◌-◌, ◌*◌, ◌/◌, ◌%◌, ◌≤◌, Bool, true, false, not, cond, nat_eq, List, [], ◌∷◌, ◌++◌, length, get_or, set, refl, sym, ◌∙◌, subst, arith, ◌⊎◌, inl, inr, get_or-set_other, get_or-set_same}
+use Rattle.std.specs.List.{All, Contains}
+use Rattle.std.proofs.lemmas.Bool.{cases_eq, cases_lt, eqb-true, false≢true, ne_eqb}
 use Rattle.std.proofs.lemmas.List.{get_or_past, set_past}
-use Rattle.std.proofs.lemmas.List.Elements.{All-head, All-tail, All-append, All-cons, All-nil, All-contains, All-weaker, Contains-get_or, Contains-append_right}
-use Rattle.std.proofs.lemmas.List.Folds.{list_any_at, list_any-append}
-use Rattle.gi_lit.specs.Truth.{true_in, clause_true, MakesTrue, Fail}
-use Rattle.gi_lit.proofs.Vars.{var_facts}
-use Rattle.gi_lit.specs.Problem.{IsPlain, IsWellFormed, Problem, Pair, forced, guarded, force, full}
+use Rattle.std.proofs.lemmas.List.Elements.{All-head, All-tail, All-cons, All-contains, Contains-get_or, Contains-append_right}
+use Rattle.std.proofs.lemmas.List.Folds.{list_any_at, Any-from_list_any}
+use Rattle.gi_lit.specs.Truth.{true_in, clause_true, MakesTrue, Satisfies}
+use Rattle.gi_lit.specs.Problem.{Problem, has, force, full, IsPlain, IsProblemVar, IsWellFormed}
+use Rattle.gi_lit.specs.Guards.{IsLess, IsAsleep}
 use Rattle.gi_lit.specs.Laws.{GuardsAreSound}
+use Rattle.gi_lit.proofs.Vars.{var_facts, has-from_Contains, lacks}
+use Rattle.gi_lit.proofs.Resting.{rests}
 
--- no literal of the clause is of a guard of the pairs
-abbrev pub IsFree : List Pair → List ℕ → Type 0
-IsFree pairs clause = All (λ l. (1 ≤ l / 2) × All (λ p. l / 2 ≢ p.guard) pairs) clause
+-- a true clause has a true literal
+pub true_lit : (v : List Bool) (c : List ℕ) → clause_true v c ≡ true → (l : ℕ) × Contains c l × (true_in v l ≡ true)
+true_lit v c e = let a = Any-from_list_any (true_in v) c e in (a.1, (a.0, a.2, a.3), a.4)
 
-pub record HasFreeClauses (plain : List (List ℕ)) (pairs : List Pair) : Type 0 where
-  pub plain_free : All (IsFree pairs) plain
-  pub pairs_free : All (λ p. IsFree pairs p.clause) pairs
-  pub guards : All (λ p. 1 ≤ p.guard) pairs
-
-free_clause : (p : Problem) → IsWellFormed p → (c : List ℕ) → IsPlain p c → IsFree p.pairs c
-free_clause p h c a k d lt = let f = var_facts p (get_or c k d / 2) (a k d lt) in (f.low, λ i e m q. f.inactive (subst (Contains p.active) (sym q) (h.guards i e m)))
-
-pub free_clauses : (p : Problem) → IsWellFormed p → HasFreeClauses p.plain p.pairs
-free_clauses p h = record {
-  plain_free = All-weaker (IsPlain p) (IsFree p.pairs) (free_clause p h) p.plain h.plain;
-  pairs_free = All-weaker (λ (q : Pair). IsPlain p q.clause) (λ (q : Pair). IsFree p.pairs q.clause) (λ q. free_clause p h q.clause) p.pairs h.pairs;
-  guards = λ k d lt. All-contains (λ x. 1 ≤ x) (p.freed ++ p.active) _ h.low (Contains-append_right p.freed p.active _ (h.guards k d lt));
-}
+pub true_clause : (v : List Bool) (c : List ℕ) (l : ℕ) → Contains c l → true_in v l ≡ true → clause_true v c ≡ true
+true_clause v c l h t = list_any_at (true_in v) c h.0 l h.1 (subst (λ m. true_in v m ≡ true) (sym h.2) t)
 
 -- each guard that isn't given is made false
-abbrev cleared : List ℕ → List Pair → List Bool → List Bool
+abbrev cleared : List ℕ → List ℕ → List Bool → List Bool
 cleared given [] values = values
-cleared given (p ∷ ps) values = cleared given ps (cond (list_any (nat_eq (2 * p.guard)) given) values (set values (p.guard - 1) false))
+cleared given (g ∷ gs) values = cleared given gs (cond (has given (2 * g)) values (set values (g - 1) false))
 
--- a place of no guard that is made false keeps its value
-kept : (given : List ℕ) (ps : List Pair) (values : List Bool) (i : ℕ) → All (λ p. (list_any (nat_eq (2 * p.guard)) given ≡ true) ⊎ (i ≢ p.guard - 1)) ps → get_or (cleared given ps values) i false ≡ get_or values i false
+-- the place is of no guard that is made false
+abbrev IsSpared : List ℕ → ℕ → ℕ → Type 0
+IsSpared given i g = (has given (2 * g) ≡ true) ⊎ (i ≢ g - 1)
+
+kept : (given gs : List ℕ) (values : List Bool) (i : ℕ) → All (IsSpared given i) gs → get_or (cleared given gs values) i false ≡ get_or values i false
 kept given [] values i h = refl
-kept given (p ∷ ps) values i h = kept given ps _ i (All-tail (λ p. (list_any (nat_eq (2 * p.guard)) given ≡ true) ⊎ (i ≢ p.guard - 1)) p ps h) ∙ go (list_any (nat_eq (2 * p.guard)) given) (All-head (λ p. (list_any (nat_eq (2 * p.guard)) given ≡ true) ⊎ (i ≢ p.guard - 1)) p ps h)
+kept given (g ∷ gs) values i h = kept given gs _ i (All-tail (IsSpared given i) g gs h) ∙ go (has given (2 * g)) (All-head (IsSpared given i) g gs h)
   where
-    go : (b : Bool) → (b ≡ true) ⊎ (i ≢ p.guard - 1) → get_or (cond b values (set values (p.guard - 1) false)) i false ≡ get_or values i false
+    go : (b : Bool) → (b ≡ true) ⊎ (i ≢ g - 1) → get_or (cond b values (set values (g - 1) false)) i false ≡ get_or values i false
     go true o = refl
     go false (inl e) = absurd (false≢true e)
-    go false (inr n) = get_or-set_other values (p.guard - 1) i false false n
+    go false (inr n) = get_or-set_other values (g - 1) i false false n
 
 pub unset_at : (values : List Bool) (i : ℕ) → get_or (set values i false) i false ≡ false
 unset_at values i = elim (cases_lt i (length values)) [ inl lt ↦ get_or-set_same values i false false lt | inr le ↦ rw (set_past values i false le) (get_or_past values i false le) ]
 
 -- a value that is false stays so
-stays_false : (given : List ℕ) (ps : List Pair) (values : List Bool) (i : ℕ) → get_or values i false ≡ false → get_or (cleared given ps values) i false ≡ false
+stays_false : (given gs : List ℕ) (values : List Bool) (i : ℕ) → get_or values i false ≡ false → get_or (cleared given gs values) i false ≡ false
 stays_false given [] values i h = h
-stays_false given (p ∷ ps) values i h = stays_false given ps _ i (go (list_any (nat_eq (2 * p.guard)) given) (cases_eq i (p.guard - 1)))
+stays_false given (g ∷ gs) values i h = stays_false given gs _ i (go (has given (2 * g)) (cases_eq i (g - 1)))
   where
-    unset : get_or (set values (p.guard - 1) false) (p.guard - 1) false ≡ false
-    unset = unset_at values (p.guard - 1)
-
-    go : (b : Bool) → (i ≡ p.guard - 1) ⊎ (i ≡ p.guard - 1 → ⊥) → get_or (cond b values (set values (p.guard - 1) false)) i false ≡ false
+    go : (b : Bool) → (i ≡ g - 1) ⊎ (i ≡ g - 1 → ⊥) → get_or (cond b values (set values (g - 1) false)) i false ≡ false
     go true o = h
-    go false (inl e) = rw e unset
-    go false (inr n) = get_or-set_other values (p.guard - 1) i false false n ∙ h
+    go false (inl e) = rw e (unset_at values (g - 1))
+    go false (inr n) = get_or-set_other values (g - 1) i false false n ∙ h
 
 -- a guard that isn't given is false
-cleared_guards : (given : List ℕ) (ps : List Pair) (values : List Bool) → All (λ p. list_any (nat_eq (2 * p.guard)) given ≡ false → get_or (cleared given ps values) (p.guard - 1) false ≡ false) ps
+cleared_guards : (given gs : List ℕ) (values : List Bool) → All (λ g. has given (2 * g) ≡ false → get_or (cleared given gs values) (g - 1) false ≡ false) gs
 cleared_guards given [] values = λ k d lt. absurd (omega arith)
-cleared_guards given (p ∷ ps) values = All-cons (λ q. list_any (nat_eq (2 * q.guard)) given ≡ false → get_or (cleared given (p ∷ ps) values) (q.guard - 1) false ≡ false) p ps
-    (λ h. stays_false given ps (cond (list_any (nat_eq (2 * p.guard)) given) values (set values (p.guard - 1) false)) (p.guard - 1) (rw h (unset_at values (p.guard - 1))))
-    (cleared_guards given ps (cond (list_any (nat_eq (2 * p.guard)) given) values (set values (p.guard - 1) false)))
+cleared_guards given (g ∷ gs) values = All-cons (λ x. has given (2 * x) ≡ false → get_or (cleared given (g ∷ gs) values) (x - 1) false ≡ false) g gs
+    (λ h. stays_false given gs (cond (has given (2 * g)) values (set values (g - 1) false)) (g - 1) (rw h (unset_at values (g - 1))))
+    (cleared_guards given gs (cond (has given (2 * g)) values (set values (g - 1) false)))
 
 pub same_truth : (v w : List Bool) (l : ℕ) → get_or w (l / 2 - 1) false ≡ get_or v (l / 2 - 1) false → true_in w l ≡ true_in v l
 unfolding true_in
@@ -89,71 +80,49 @@ odd_true : (w : List Bool) (l : ℕ) → nat_eq (l % 2) 0 ≡ false → get_or w
 unfolding true_in
 odd_true w l o e = rw (o, e) refl
 
-module _ (pairs : List Pair) (given : List ℕ) (v : List Bool) (guards : All (λ p. 1 ≤ p.guard) pairs) where
+module _ (p : Problem) (given : List ℕ) (h : IsWellFormed p) (v : List Bool) where
   w : List Bool
-  w = cleared given pairs v
+  w = cleared given p.active v
 
-  free_same : (l : ℕ) → (1 ≤ l / 2) × All (λ p. l / 2 ≢ p.guard) pairs → true_in w l ≡ true_in v l
+  low_guard : (g : ℕ) → Contains p.active g → 1 ≤ g
+  low_guard g act = All-contains (λ x. 1 ≤ x) (p.freed ++ p.active) g h.low (Contains-append_right p.freed p.active g act)
+
+  -- a literal of a problem variable keeps its truth
+  plain_same : (l : ℕ) → IsProblemVar p (l / 2) → true_in w l ≡ true_in v l
   unfolding w
-  free_same l h = same_truth v (cleared given pairs v) l (kept given pairs v (l / 2 - 1) (λ k d lt. inr (λ e. h.1 k d lt (let g = guards k d lt in let b = h.0 in omega arith))))
+  plain_same l x = same_truth v (cleared given p.active v) l (kept given p.active v (l / 2 - 1) (λ k d lt. inr (λ e.
+      let f = var_facts p (l / 2) x in
+      let act : Contains p.active (get_or p.active k d) = Contains-get_or p.active k d lt in
+      let same : get_or p.active k d ≡ l / 2 = omega (arith, e, f.low, low_guard _ act) in
+      f.inactive (subst (Contains p.active) same act))))
 
-  clause_same : (c : List ℕ) → IsFree pairs c → clause_true w c ≡ clause_true v c
-  clause_same [] f = refl
-  clause_same (l ∷ c) f = rw (free_same l (All-head (λ l. (1 ≤ l / 2) × All (λ p. l / 2 ≢ p.guard) pairs) l c f), clause_same c (All-tail (λ l. (1 ≤ l / 2) × All (λ p. l / 2 ≢ p.guard) pairs) l c f)) refl
+  guard_false : (g : ℕ) → Contains p.active g → ¬ Contains given (2 * g) → true_in w (2 * g + 1) ≡ true
+  unfolding w
+  guard_false g act missing = negative_true (cleared given p.active v) g (All-contains (λ g. has given (2 * g) ≡ false → get_or (cleared given p.active v) (g - 1) false ≡ false) p.active g (cleared_guards given p.active v) act (lacks given (2 * g) missing))
 
-  plain_kept : (cs : List (List ℕ)) → All (IsFree pairs) cs → All (λ c. clause_true v c ≡ true) cs → All (λ c. clause_true w c ≡ true) cs
-  plain_kept cs f h k d lt = clause_same (get_or cs k d) (f k d lt) ∙ h k d lt
-
-  pairs_kept : (qs : List Pair) → All (λ p. IsFree pairs p.clause) qs → All (λ p. list_any (nat_eq (2 * p.guard)) given ≡ false → get_or w (p.guard - 1) false ≡ false) qs → All (λ c. clause_true v c ≡ true) (forced given qs) → All (λ c. clause_true w c ≡ true) (map guarded qs)
-  pairs_kept [] f g h = λ k d lt. absurd (omega arith)
-  pairs_kept (p ∷ qs) f g h = go (pairs_kept qs (All-tail (λ p. IsFree pairs p.clause) p qs f) (All-tail (λ p. list_any (nat_eq (2 * p.guard)) given ≡ false → get_or w (p.guard - 1) false ≡ false) p qs g)) (list_any (nat_eq (2 * p.guard)) given) refl h
+  -- whoever satisfies the clauses in force satisfies the full ones with those guards made false
+  full_true : Satisfies v (force p given) → Satisfies w (full p)
+  full_true s = record { each = λ k d lt. clause (get_or (full p) k d) ((rests p given h).others _ (Contains-get_or (full p) k d lt)) }
     where
-      both : (list_any (true_in w) p.clause || list_any (true_in w) ((2 * p.guard + 1) ∷ [])) ≡ true → clause_true w (guarded p) ≡ true
-      both e = list_any-append (true_in w) p.clause ((2 * p.guard + 1) ∷ []) ∙ e
-
-      go : (All (λ c. clause_true v c ≡ true) (forced given qs) → All (λ c. clause_true w c ≡ true) (map guarded qs)) → (b : Bool) → list_any (nat_eq (2 * p.guard)) given ≡ b → All (λ c. clause_true v c ≡ true) (cond b (p.clause ∷ forced given qs) (forced given qs)) → All (λ c. clause_true w c ≡ true) (guarded p ∷ map guarded qs)
-      go rest true e a = All-cons (λ c. clause_true w c ≡ true) (guarded p) (map guarded qs)
-          (both (or_left _ _ (clause_same p.clause (All-head (λ p. IsFree pairs p.clause) p qs f) ∙ All-head (λ c. clause_true v c ≡ true) p.clause (forced given qs) a)))
-          (rest (All-tail (λ c. clause_true v c ≡ true) p.clause (forced given qs) a))
-      go rest false e a = All-cons (λ c. clause_true w c ≡ true) (guarded p) (map guarded qs)
-          (both (or_right _ _ (or_left _ _ (negative_true w p.guard (All-head (λ p. list_any (nat_eq (2 * p.guard)) given ≡ false → get_or w (p.guard - 1) false ≡ false) p qs g e)))))
-          (rest a)
-
-  guards_false : All (λ p. list_any (nat_eq (2 * p.guard)) given ≡ false → get_or w (p.guard - 1) false ≡ false) pairs
-  unfolding w
-  guards_false = cleared_guards given pairs v
+      clause : (c : List ℕ) → ((d : List ℕ) × Contains (force p given) d × IsLess p given c d) ⊎ IsAsleep p given c → clause_true w c ≡ true
+      clause c (inl t) =
+          let x = true_lit v t.0 (All-contains (λ c. clause_true v c ≡ true) (force p given) t.0 s.each t.1) in
+          let plain : IsProblemVar p (x.0 / 2) = All-contains (λ l. IsProblemVar p (l / 2)) t.0 x.0 (All-contains (IsPlain p) (force p given) t.0 (rests p given h).plain t.1) x.1 in
+          true_clause w c x.0 (All-contains (Contains c) t.0 x.0 t.2.part x.1) (plain_same x.0 plain ∙ x.2)
+      clause c (inr z) = true_clause w c (2 * z.guard + 1) z.negative (guard_false z.guard z.active z.missing)
 
   given_kept : All (λ l. 1 ≤ l / 2) given → MakesTrue v given → MakesTrue w given
   unfolding w
   given_kept big t = record { each = λ k d lt. go (get_or given k d) (Contains-get_or given k d lt) (big k d lt) (t.each k d lt) (nat_eq (get_or given k d % 2) 0) refl }
     where
-      go : (l : ℕ) → Contains given l → 1 ≤ l / 2 → true_in v l ≡ true → (b : Bool) → nat_eq (l % 2) 0 ≡ b → true_in (cleared given pairs v) l ≡ true
-      go l h b t true e =
+      go : (l : ℕ) → Contains given l → 1 ≤ l / 2 → true_in v l ≡ true → (b : Bool) → nat_eq (l % 2) 0 ≡ b → true_in (cleared given p.active v) l ≡ true
+      go l c b t true e =
           let even : l % 2 ≡ 0 = eqb-true (l % 2) 0 e in
-          same_truth v (cleared given pairs v) l (kept given pairs v (l / 2 - 1) (λ k d lt. elim (cases_eq (l / 2) (get_or pairs k d).guard) [
-            | inl same ↦ inl (let twice : 2 * (get_or pairs k d).guard ≡ l = omega arith in rw twice (list_any_at (nat_eq l) given h.0 l h.1 (eq-eqb l (get_or given h.0 l) (sym h.2))))
-            | inr other ↦ inr (λ q. let g = guards k d lt in other (omega arith))
+          same_truth v (cleared given p.active v) l (kept given p.active v (l / 2 - 1) (λ k d lt. elim (cases_eq (l / 2) (get_or p.active k d)) [
+            | inl same ↦ inl (let twice : l ≡ 2 * get_or p.active k d = omega arith in has-from_Contains given (2 * get_or p.active k d) (subst (Contains given) twice c))
+            | inr other ↦ inr (λ q. let g = low_guard _ (Contains-get_or p.active k d lt) in other (omega arith))
           ])) ∙ t
-      go l h b t false e = odd_true (cleared given pairs v) l e (stays_false given pairs v (l / 2 - 1) (odd_false v l e t))
-
-parts_sound : (plain : List (List ℕ)) (pairs : List Pair) (given : List ℕ) → HasFreeClauses plain pairs → All (λ l. 1 ≤ l / 2) given → Fail (plain ++ map guarded pairs) given → Fail (plain ++ forced given pairs) given
-parts_sound plain pairs given h big fail v s t =
-    fail (w pairs given v h.guards)
-    (record {
-      each = All-append (λ c. clause_true (w pairs given v h.guards) c ≡ true) plain (map guarded pairs)
-          (plain_kept pairs given v h.guards plain h.plain_free (left plain (forced given pairs) s.each))
-          (pairs_kept pairs given v h.guards pairs h.pairs_free (guards_false pairs given v h.guards) (right plain (forced given pairs) s.each));
-    })
-    (given_kept pairs given v h.guards big t)
-  where
-    left : (xs ys : List (List ℕ)) → All (λ c. clause_true v c ≡ true) (xs ++ ys) → All (λ c. clause_true v c ≡ true) xs
-    left [] ys a = All-nil (λ c. clause_true v c ≡ true)
-    left (x ∷ xs) ys a = All-cons (λ c. clause_true v c ≡ true) x xs (All-head (λ c. clause_true v c ≡ true) x (xs ++ ys) a) (left xs ys (All-tail (λ c. clause_true v c ≡ true) x (xs ++ ys) a))
-
-    right : (xs ys : List (List ℕ)) → All (λ c. clause_true v c ≡ true) (xs ++ ys) → All (λ c. clause_true v c ≡ true) ys
-    right [] ys a = a
-    right (x ∷ xs) ys a = right xs ys (All-tail (λ c. clause_true v c ≡ true) x (xs ++ ys) a)
+      go l c b t false e = odd_true (cleared given p.active v) l e (stays_false given p.active v (l / 2 - 1) (odd_false v l e t))
 
 pub guards_sound : GuardsAreSound
-unfolding full force
-guards_sound p given h big fail = parts_sound p.plain p.pairs given (free_clauses p h) big fail
+guards_sound p given h big fail v s t = fail (w p given h v) (full_true p given h v s) (given_kept p given h v big t)

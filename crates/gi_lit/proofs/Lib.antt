@@ -5,8 +5,10 @@ pub mod Distinct
 pub mod Vars
 pub mod Tops
 pub mod Guarding
+pub mod Fitting
 pub mod Growing
 pub mod Dropping
-pub mod Releasing
+pub mod Lists
+pub mod Resting
 pub mod Agreeing
 pub mod Codes

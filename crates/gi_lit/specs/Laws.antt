@@ -1,10 +1,27 @@
 -- Laws over the definitions.
-use Rattle.std.specs.Prelude.{◌≡◌, ℕ, ◌+◌, ◌*◌, ◌/◌, ◌^◌, ◌≤◌, ◌⊎◌, ◌↔◌, Bool, true, List, length, map, All, Contains}
-use Rattle.gi_lit.specs.Literals.{opposite, IsSubsetOf}
-use Rattle.gi_lit.specs.Truth.{clause_true, Satisfies, IsConsequence, Fail}
+use Rattle.std.specs.Prelude.{◌≡◌, ℕ, ◌∷◌, ◌/◌, ◌^◌, ◌≤◌, ◌↔◌, Bool, true, List, length, map, All, Contains}
+use Rattle.gi_lit.specs.Literals.{opposite, IsWithin}
+use Rattle.gi_lit.specs.Truth.{clause_true, Satisfies, MakesTrue, IsConsequence, IsConsequenceAmong, IsImpliedAmong, Fail, FailAmong}
 use Rattle.gi_lit.specs.Closure.{IsDerivation, InClosure, Conflicts, IsConsistent, IsClosed}
 use Rattle.gi_lit.specs.Problem.{Problem, force, full, IsWellFormed, IsProblemVar, IsAssumable}
-use Rattle.gi_lit.specs.Learnt.{AreFresh}
+use Rattle.gi_lit.specs.Guards.{RestsOnGuards}
+use Rattle.gi_lit.specs.Learnt.{IsImplied, AreFresh}
+
+-- where literals are of variables from 1 to n, some list of n values does what any values do
+abbrev pub ListsOfValuesSuffice : Type 0
+ListsOfValuesSuffice = (n : ℕ) (clauses : List (List ℕ)) (lits : List ℕ) → All (IsWithin n) clauses → IsWithin n lits → (values : List Bool) → Satisfies values clauses → MakesTrue values lits
+    → (fitted : List Bool) × (length fitted ≡ n) × Satisfies fitted clauses × MakesTrue fitted lits
+
+-- and what is a consequence, or fails, among those is so among all
+abbrev pub ConsequencesAreAmong : Type 0
+ConsequencesAreAmong = (n : ℕ) (clauses : List (List ℕ)) (given : List ℕ) (l : ℕ) → All (IsWithin n) clauses → IsWithin n (l ∷ given) → IsConsequenceAmong n clauses given l ↔ IsConsequence clauses given l
+
+abbrev pub FailuresAreAmong : Type 0
+FailuresAreAmong = (n : ℕ) (clauses : List (List ℕ)) (given : List ℕ) → All (IsWithin n) clauses → IsWithin n given → FailAmong n clauses given ↔ Fail clauses given
+
+-- and a clause is implied by a problem exactly where it is among lists of values of the problem's variables
+abbrev pub ImpliedClausesAreAmong : Type 0
+ImpliedClausesAreAmong = (p : Problem) (clause : List ℕ) → IsWellFormed p → IsWithin p.vars clause → IsImpliedAmong p.vars (full p) clause ↔ IsImplied p clause
 
 -- what a derivation contains is a consequence
 abbrev pub DerivationsAreSound : Type 0
@@ -30,23 +47,9 @@ ClosedListsAreFree = (clauses : List (List ℕ)) (given lits : List ℕ) → IsC
 abbrev pub GuardsAreSound : Type 0
 GuardsAreSound = (p : Problem) (given : List ℕ) → IsWellFormed p → All (λ l. 1 ≤ l / 2) given → Fail (full p) given → Fail (force p given) given
 
--- in the full clauses guards stand negative alone
-abbrev pub GuardsStandNegative : Type 0
-GuardsStandNegative = (p : Problem) → IsWellFormed p → All (λ c. All (λ l. Contains p.active (l / 2) → l ≡ 2 * (l / 2) + 1) c) (full p)
-
--- the clause is the whole one less negative literals of active guards that are given
-pub record IsReleased (p : Problem) (given clause whole : List ℕ) : Type 0 where
-  pub inside : IsSubsetOf clause whole
-  pub others : All (λ l. Contains clause l ⊎ ((g : ℕ) × Contains p.active g × Contains given (2 * g) × (l ≡ 2 * g + 1))) whole
-
--- each clause in force is a full clause less negative literals of guards that are given
-abbrev pub ForcedClausesAreFull : Type 0
-ForcedClausesAreFull = (p : Problem) (given : List ℕ) → IsWellFormed p → All (λ d. (c : List ℕ) × Contains (full p) c × IsReleased p given d c) (force p given)
-
--- and each other full clause has the negative literal of an active guard that isn't given
-abbrev pub OtherClausesAreHeld : Type 0
-OtherClausesAreHeld = (p : Problem) (given : List ℕ) → IsWellFormed p
-    → All (λ c. ((d : List ℕ) × Contains (force p given) d × IsReleased p given d c) ⊎ ((g : ℕ) × Contains p.active g × Contains c (2 * g + 1) × ¬ Contains given (2 * g))) (full p)
+-- in a well formed problem the law on guards holds
+abbrev pub ProblemsRestOnGuards : Type 0
+ProblemsRestOnGuards = (p : Problem) (given : List ℕ) → IsWellFormed p → RestsOnGuards p given
 
 -- under assumable literals the unit closure of the full clauses has the problem literals of that of the clauses in force, and no others
 abbrev pub ClosuresAgree : Type 0

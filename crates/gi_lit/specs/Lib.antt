@@ -3,5 +3,7 @@ pub mod Lists
 pub mod Truth
 pub mod Closure
 pub mod Problem
+pub mod Guards
 pub mod Learnt
+pub mod Ends
 pub mod Laws

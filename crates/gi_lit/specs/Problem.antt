@@ -1,24 +1,24 @@
 -- The problem: variables, plain clauses, and clauses under guards that come and go.
-use Rattle.std.specs.Prelude.{◌≡◌, ℕ, ◌+◌, ◌*◌, ◌/◌, ◌≤◌, ◌==◌, Bool, true, not, ◌&&◌, ◌||◌, nat_le, nat_eq, if◌then◌else◌, List, [], ◌∷◌, ◌++◌, length, map, max, filter, sum_by, All, Contains, ◌⊎◌}
-use Rattle.std.specs.List.{list_any}
+use Rattle.std.specs.Prelude.{◌≡◌, ℕ, ◌+◌, ◌*◌, ◌-◌, ◌/◌, ◌<◌, ◌≤◌, ◌==◌, Bool, true, not, ◌&&◌, ◌||◌, nat_le, nat_eq, if◌then◌else◌, List, [], ◌∷◌, ◌++◌, length, map, max, filter, sum_by, All, Contains, ◌⊎◌}
+use Rattle.std.specs.List.{list_any, list_all}
 use Rattle.gi_lit.specs.Lists.{IsDistinct}
 
--- a clause that counts where its guard is true
-pub record Pair : Type 0 where
-  pub guard : ℕ
+-- a clause that counts where all its guards are true
+pub record Group : Type 0 where
+  pub guards : List ℕ
   pub clause : List ℕ
 
 -- variables, clauses and guards
 pub record Problem : Type 0 where
   pub vars : ℕ  -- the variables are 1 to vars
   pub plain : List (List ℕ)
-  pub pairs : List Pair
+  pub groups : List Group
   pub active : List ℕ  -- guards in use, the one made active last stands last
   pub freed : List ℕ  -- guards to be used again, the one freed last stands first
 
 -- with nothing in it
 abbrev pub empty_problem : Problem
-empty_problem = record { vars = 0; plain = []; pairs = []; active = []; freed = [] }
+empty_problem = record { vars = 0; plain = []; groups = []; active = []; freed = [] }
 
 -- whether the list has the number
 abbrev pub has : List ℕ → ℕ → Bool
@@ -48,30 +48,42 @@ IsAssumable p l = IsProblemVar p (l / 2) ⊎ (is_guard_lit p l ≡ true)
 abbrev pub IsLiveVar : Problem → ℕ → Type 0
 IsLiveVar p v = (1 ≤ v) × (v ≤ p.vars) × ¬ Contains p.freed v
 
--- the clauses of the pairs whose guard's positive literal is given
-abbrev pub forced : List ℕ → List Pair → List (List ℕ)
-forced given [] = []
-forced given (p ∷ ps) = if list_any (nat_eq (2 * p.guard)) given then p.clause ∷ forced given ps else forced given ps
+-- whether the positive literal of each guard is given
+abbrev pub are_given : List ℕ → List ℕ → Bool
+are_given given guards = list_all (λ g. has given (2 * g)) guards
 
--- the pair as one clause: its guard is false, or its clause holds
-abbrev pub guarded : Pair → List ℕ
-guarded p = p.clause ++ (2 * p.guard + 1) ∷ []
+-- the clauses of the groups all of whose guards are given
+abbrev pub forced : List ℕ → List Group → List (List ℕ)
+forced given [] = []
+forced given (q ∷ qs) = if are_given given q.guards then q.clause ∷ forced given qs else forced given qs
+
+-- the negative literals of guards, in order
+abbrev pub negatives : List ℕ → List ℕ
+negatives guards = map (λ g. 2 * g + 1) guards
+
+-- the group as one clause: one of its guards is false, or its clause holds
+abbrev pub guarded : Group → List ℕ
+guarded q = q.clause ++ negatives q.guards
 
 -- the clauses in force where the literals are given
 unfoldable pub force : Problem → List ℕ → List (List ℕ)
-force p given = p.plain ++ forced given p.pairs
+force p given = p.plain ++ forced given p.groups
 
--- the full clauses: the plain ones, and each pair as one clause
+-- the full clauses: the plain ones, and each group as one clause
 unfoldable pub full : Problem → List (List ℕ)
-full p = p.plain ++ map guarded p.pairs
+full p = p.plain ++ map guarded p.groups
 
--- how many literals its clauses have, guards left out
+-- how many literals a group has as given: those of its clause, and one for each of its guards after the first
+abbrev pub as_given : Group → ℕ
+as_given q = length q.clause + (length q.guards - 1)
+
+-- how many literals its clauses have as given
 unfoldable pub lit_count : Problem → ℕ
-lit_count p = sum_by length p.plain + sum_by (λ (q : Pair). length q.clause) p.pairs
+lit_count p = sum_by length p.plain + sum_by as_given p.groups
 
 -- how many clauses it has, those under guards among them
 abbrev pub clause_count : Problem → ℕ
-clause_count p = length p.plain + length p.pairs
+clause_count p = length p.plain + length p.groups
 
 -- the greatest variable of a list of literals, 0 for none
 unfoldable pub top : List ℕ → ℕ
@@ -91,9 +103,9 @@ abbrev pub with_clauses : List (List ℕ) → Problem → Problem
 with_clauses [] p = p
 with_clauses (c ∷ cs) p = with_clauses cs (with_clause c p)
 
--- a clause more under a guard
-abbrev pub with_pair : ℕ → List ℕ → Problem → Problem
-with_pair g c p = record p { vars = max p.vars (top c); pairs = p.pairs ++ record { guard = g; clause = c } ∷ [] }
+-- a clause more under guards
+abbrev pub with_group : List ℕ → List ℕ → Problem → Problem
+with_group gs c p = record p { vars = max p.vars (top c); groups = p.groups ++ record { guards = gs; clause = c } ∷ [] }
 
 -- the guard that comes next, where these are freed: the one freed last, else a new variable
 abbrev pub guard_next : ℕ → List ℕ → ℕ
@@ -121,27 +133,30 @@ names v clause = list_any (λ l. l / 2 == v) clause
 unfoldable pub without_var : ℕ → List (List ℕ) → List (List ℕ)
 without_var v clauses = filter (λ c. not (names v c)) clauses
 
--- the pairs of other guards, in order
-unfoldable pub without_pairs : ℕ → List Pair → List Pair
-without_pairs g pairs = filter (λ (q : Pair). not (q.guard == g)) pairs
+-- the groups that don't name the guard, in order
+unfoldable pub without_groups : ℕ → List Group → List Group
+without_groups g groups = filter (λ (q : Group). not (has q.guards g)) groups
 
 -- the other numbers, in order
 unfoldable pub without : ℕ → List ℕ → List ℕ
 without x xs = filter (λ y. not (y == x)) xs
 
--- an active guard freed: its pairs are gone
+-- an active guard freed: the groups that name it are gone
 abbrev pub without_guard : ℕ → Problem → Problem
-without_guard g p = record p { pairs = without_pairs g p.pairs; active = without g p.active; freed = g ∷ p.freed }
+without_guard g p = record p { groups = without_groups g p.groups; active = without g p.active; freed = g ∷ p.freed }
 
 -- a clause of problem variables alone
 abbrev pub IsPlain : Problem → List ℕ → Type 0
 IsPlain p c = All (λ l. IsProblemVar p (l / 2)) c
 
--- clauses have problem variables alone, pairs have active guards, and the guards are different variables of the problem
+-- a clause of problem variables under active guards, one at least
+abbrev pub IsGroup : Problem → Group → Type 0
+IsGroup p q = IsPlain p q.clause × All (Contains p.active) q.guards × (0 < length q.guards)
+
+-- clauses have problem variables alone, groups have active guards, and the guards are different variables of the problem
 pub record IsWellFormed (p : Problem) : Type 0 where
   pub plain : All (IsPlain p) p.plain
-  pub pairs : All (λ (q : Pair). IsPlain p q.clause) p.pairs
-  pub guards : All (λ (q : Pair). Contains p.active q.guard) p.pairs
+  pub groups : All (IsGroup p) p.groups
   pub distinct : IsDistinct (p.freed ++ p.active)
   pub low : All (λ g. 1 ≤ g) (p.freed ++ p.active)
   pub high : All (λ g. g ≤ p.vars) (p.freed ++ p.active)

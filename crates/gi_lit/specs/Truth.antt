@@ -1,5 +1,5 @@
 -- Truth under an assignment: a list of truth values, that of variable v at place v - 1. Past its end all is false.
-use Rattle.std.specs.Prelude.{◌≡◌, ℕ, ◌-◌, ◌/◌, ◌%◌, ◌==◌, Bool, true, false, not, if◌then◌else◌, List, slice_index_or, All}
+use Rattle.std.specs.Prelude.{◌≡◌, ℕ, ◌-◌, ◌/◌, ◌%◌, ◌==◌, Bool, true, false, not, if◌then◌else◌, List, length, slice_index_or, All}
 use Rattle.std.specs.List.{list_any}
 
 -- whether the values make the literal true
@@ -25,3 +25,13 @@ IsConsequence clauses given l = (values : List Bool) → Satisfies values clause
 -- nothing satisfies the clauses and makes the given literals true
 abbrev pub Fail : List (List ℕ) → List ℕ → Type 0
 Fail clauses given = (values : List Bool) → Satisfies values clauses → MakesTrue values given → ⊥
+
+-- the same among lists of n values, the assignments of n variables
+abbrev pub IsConsequenceAmong : ℕ → List (List ℕ) → List ℕ → ℕ → Type 0
+IsConsequenceAmong n clauses given l = (values : List Bool) → length values ≡ n → Satisfies values clauses → MakesTrue values given → true_in values l ≡ true
+
+abbrev pub IsImpliedAmong : ℕ → List (List ℕ) → List ℕ → Type 0
+IsImpliedAmong n clauses clause = (values : List Bool) → length values ≡ n → Satisfies values clauses → clause_true values clause ≡ true
+
+abbrev pub FailAmong : ℕ → List (List ℕ) → List ℕ → Type 0
+FailAmong n clauses given = (values : List Bool) → length values ≡ n → Satisfies values clauses → MakesTrue values given → ⊥

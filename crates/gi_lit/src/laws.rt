@@ -1,6 +1,16 @@
 //! Laws over the definitions, each the contract of a function that does nothing.
 
-ghost use Rattle.gi_lit.specs.Laws.{DerivationsAreSound, ConflictsAreSound, DerivedClausesAreTrue, ClosedListsAreWhole, ClosedListsAreFree, GuardsAreSound, GuardsStandNegative, ForcedClausesAreFull, OtherClausesAreHeld, ClosuresAgree, ConflictsAgree, FreshClausesAreFew};
+ghost use Rattle.gi_lit.specs.Laws.{ListsOfValuesSuffice, ConsequencesAreAmong, FailuresAreAmong, ImpliedClausesAreAmong, DerivationsAreSound, ConflictsAreSound, DerivedClausesAreTrue, ClosedListsAreWhole, ClosedListsAreFree, GuardsAreSound, ProblemsRestOnGuards, ClosuresAgree, ConflictsAgree, FreshClausesAreFew};
+
+/// An assignment of n variables is a list of n values. Where literals are of variables from 1 to n, what
+/// can be satisfied, what is a consequence, what fails and what is implied is the same over those lists and
+/// over all.
+pub fn lists_of_values_suffice()
+    ensures satisfying { ListsOfValuesSuffice }
+    ensures consequences { ConsequencesAreAmong }
+    ensures failing { FailuresAreAmong }
+    ensures implied { ImpliedClausesAreAmong }
+{}
 
 /// Unit closure is sound: what a derivation contains is a consequence of the clauses and of what is given,
 /// and where the closure conflicts they fail together.
@@ -28,12 +38,10 @@ pub fn guards_are_sound()
 {}
 
 /// Where a problem is well formed, guards stand negative alone in its full clauses. A clause that is in
-/// force is a full clause less negative literals of guards that are given, and each other full clause has
-/// the negative literal of an active guard that isn't given.
-pub fn guards_stand_negative()
-    ensures negative { GuardsStandNegative }
-    ensures in_force { ForcedClausesAreFull }
-    ensures held { OtherClausesAreHeld }
+/// force is of problem variables, and is a full clause less negative literals of guards that are given;
+/// each other full clause has the negative literal of an active guard that isn't given.
+pub fn problems_rest_on_guards()
+    ensures { ProblemsRestOnGuards }
 {}
 
 /// Under literals that may be assumed, the unit closure of the full clauses of a well formed problem and

@@ -4,6 +4,7 @@
 mod assign;
 mod clauses;
 mod edge;
+mod guards;
 pub mod laws;
 mod lit;
 mod lits;
@@ -14,6 +15,7 @@ mod var;
 pub use assign::Assign;
 pub use clauses::Clauses;
 pub use edge::Edge;
+pub use guards::Guards;
 pub use lit::Lit;
 pub use lits::{Clause, Lits, top_variable};
 pub use var::{MAX_VAR, Var};

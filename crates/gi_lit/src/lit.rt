@@ -1,6 +1,6 @@
 ghost use Rattle.std.specs.Prelude.{◌≡◌, ◌+◌, ◌*◌, ◌/◌, ◌%◌, ◌≤◌, ◌==◌, nat_abs, if◌then◌else◌};
 ghost use Rattle.std.specs.Option.{SomeIff};
-ghost use Rattle.gi_lit.specs.Literals.{IsVariable, IsLiteral, literal_of, number_of, opposite};
+ghost use Rattle.gi_lit.specs.Literals.{max_var, IsVariable, IsLiteral, literal_of, number_of, opposite};
 
 use crate::var::{MAX_VAR, Var};
 use std::marker::Model;
@@ -60,7 +60,7 @@ impl Lit {
     pub const fn code(self) -> u32
         ensures value { result ≡ self }
         ensures low { 2 ≤ result }
-        ensures high { result ≤ 2 * MAX_VAR + 1 }
+        ensures high { result ≤ 2 * max_var + 1 }
     {
         self.code
     }

@@ -1,8 +1,8 @@
 ghost use Rattle.std.specs.Prelude.{◌≡◌, ◌/◌, ◌≤◌, All, [], ◌∷◌, ◌++◌, length, IsTrue, ◌↔◌, IfOk, OnOk, OnErr};
+ghost use Rattle.gi_lit.specs.Literals.{max_var};
 ghost use Rattle.gi_lit.specs.Problem.{top};
 
 use crate::lit::Lit;
-use crate::var::MAX_VAR;
 use std::alloc::{AllocError, Global};
 use std::marker::Model;
 
@@ -90,7 +90,7 @@ impl Lits {
 /// The greatest variable of the literals, or 0 if there are none.
 pub fn top_variable(lits: &[Lit]) -> u32
     ensures value { result ≡ top lits.now }
-    ensures high { result ≤ MAX_VAR }
+    ensures high { result ≤ max_var }
     ensures within { All (λ l. l / 2 ≤ result) lits.now }
 {
     let mut greatest = 0;

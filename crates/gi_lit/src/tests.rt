@@ -1,135 +1,154 @@
-use crate::{Assign, Clause, Clauses, Edge, Lit, Lits, MAX_VAR, Var, top_variable};
-use std::alloc::{AllocError, Global};
-use std::test::Fail;
+use crate::{Assign, Clause, Clauses, Edge, Guards, Lit, Lits, MAX_VAR, Var, top_variable};
+use std::alloc::Global;
 
-/// The clause that DIMACS writes as these numbers, each of them one of a literal.
-fn clause(alloc: Global, numbers: &[i32]) -> Result<Clause, AllocError> {
+/// The number that DIMACS writes for a literal, its code and its variable.
+const LITERALS: [(i32, u32, u32); 5] = [
+    (-3, 7, 3),
+    (3, 6, 3),
+    (1, 2, 1),
+    (16_777_216, 33_554_432, 16_777_216),
+    (-16_777_216, 33_554_433, 16_777_216),
+];
+
+const NO_NUMBERS: [i32; 4] = [0, 16_777_217, -16_777_217, i32::MIN];
+
+const NO_CODES: [u32; 3] = [0, 1, 33_554_434];
+
+fn is_literal(number: i32, code: u32, variable: u32) -> bool {
+    let Some(l) = Lit::from_dimacs(number) else {
+        return false;
+    };
+    let same = Lit::from_code(code) == Some(l);
+    let turned = l.not().to_dimacs() == -number;
+    let is_of = l.var().index() == variable && l.is_negative() == (number < 0);
+    l.code() == code && l.to_dimacs() == number && same && turned && is_of
+}
+
+fn is_variable(index: u32) -> bool {
+    let Some(v) = Var::new(index) else {
+        return false;
+    };
+    let positive = v.positive().code() == 2 * v.index();
+    positive && v.negative().code() == 2 * v.index() + 1 && v.index() == index
+}
+
+fn is_edge(code: u32, node: u32, negative: bool, not: u32) -> bool {
+    let e = Edge::new(code);
+    let parts = e.node() == node && e.is_negative() == negative;
+    e.code() == code && parts && e.not().code() == not
+}
+
+/// Whether the tables are right, and there are no literals and variables beside them.
+fn codes_are_right() -> bool {
+    let literals = LITERALS.iter().all(|(n, c, v)| is_literal(*n, *c, *v));
+    let variables = LITERALS.iter().all(|(_, _, v)| is_variable(*v));
+    let no_numbers = NO_NUMBERS.iter().all(|n| Lit::from_dimacs(*n).is_none());
+    let no_codes = NO_CODES.iter().all(|c| Lit::from_code(*c).is_none());
+    let no_variables = Var::new(0).is_none() && Var::new(16_777_217).is_none();
+    literals && variables && no_numbers && no_codes && no_variables
+}
+
+/// The clause that DIMACS writes as these numbers, if they are literals and there is memory.
+fn clause(alloc: Global, numbers: &[i32]) -> Option<Clause> {
     let mut c = Lits::new(alloc);
     for n in numbers {
-        if let Some(l) = Lit::from_dimacs(*n) {
-            c.push(l)?;
-        }
+        let l = Lit::from_dimacs(*n)?;
+        c.push(l).ok()?;
     }
-    Ok(c)
+    Some(c)
 }
 
-fn numbers(alloc: Global, c: &[Lit]) -> Result<Vec<i32>, AllocError> {
-    c.iter().map(|l| l.to_dimacs()).collect(alloc)
+fn is_clause(c: &Clause, numbers: &[i32]) -> bool {
+    let same = c
+        .as_slice()
+        .iter()
+        .map(|l| l.to_dimacs())
+        .eq(numbers.iter().copied());
+    same && c.len() == numbers.len() && c.is_empty() == numbers.is_empty()
 }
 
-/// Whether the assignment satisfies the clause, if it has all its variables.
-fn holds(a: &Assign, c: &[Lit]) -> Option<bool> {
-    let top = top_variable(c);
-    if top <= a.len() {
-        Some(a.satisfies(c))
-    } else {
-        None
-    }
+/// Whether a list is what was pushed, and its copy too.
+fn list_holds(alloc: Global) -> Option<bool> {
+    let c = clause(alloc, &[1, -2])?;
+    let again = Lits::from_vec(c.copy().ok()?.into_vec());
+    let pushed = is_clause(&c, &[1, -2]) && top_variable(c.as_slice()) == 2;
+    Some(pushed && is_clause(&again, &[1, -2]))
 }
 
-#[test]
-fn literal_codes(rt: HostRuntime) -> Result<(), Fail> {
-    for (number, code, variable) in [
-        (-3, 7, 3),
-        (3, 6, 3),
-        (1, 2, 1),
-        (1_048_576, 2_097_152, 1_048_576),
-    ] {
-        let l = Lit::from_dimacs(number).ok_or("a literal")?;
-        assert_eq!(rt; l.code(), code);
-        assert_eq!(rt; l.to_dimacs(), number);
-        assert_eq!(rt; l.var().index(), variable);
-        assert_eq!(rt; l.is_negative(), number < 0);
-        assert_eq!(rt; Lit::from_code(code), Some(l));
-    }
-    let l = Lit::from_dimacs(-3).ok_or("a literal")?.not();
-    assert_eq!(rt; l.code(), 6);
-    assert_eq!(rt; l.to_dimacs(), 3);
-    for number in [0, 1_048_577, -1_048_577, i32::MIN] {
-        assert_eq!(rt; Lit::from_dimacs(number), None, "at {number}");
-    }
-    for code in [0, 1, 2_097_154] {
-        assert_eq!(rt; Lit::from_code(code), None, "at {code}");
-    }
-    Ok(())
+fn has_one(cs: &Clauses) -> bool {
+    let first = match cs.get(0) {
+        Some(c) => is_clause(c, &[1, -2]),
+        None => false,
+    };
+    first && cs.len() == 1 && cs.as_slice().len() == 1 && cs.get(1).is_none()
 }
 
-#[test]
-fn variables_and_edges(rt: HostRuntime) -> Result<(), Fail> {
-    assert_eq!(rt; MAX_VAR, 1_048_576);
-    assert_eq!(rt; Var::new(0), None);
-    assert_eq!(rt; Var::new(1_048_577), None);
-    let v = Var::new(5).ok_or("a variable")?;
-    assert_eq!(rt; v.index(), 5);
-    assert_eq!(rt; v.positive().to_dimacs(), 5);
-    assert_eq!(rt; v.negative().to_dimacs(), -5);
-    let e = Edge::new(7);
-    assert_eq!(rt; (e.code(), e.node(), e.is_negative()), (7, 3, true));
-    assert_eq!(rt; e.not(), Edge::new(6));
-    assert_eq!(rt; Edge::new(0).not().code(), 1);
-    Ok(())
+/// Whether a list of clauses has the one that was pushed.
+fn clauses_hold(alloc: Global) -> Option<bool> {
+    let mut cs = Clauses::new(alloc);
+    let empty = cs.is_empty();
+    cs.push(clause(alloc, &[1, -2])?).ok()?;
+    Some(empty && has_one(&Clauses::from_vec(cs.into_vec())))
 }
 
-#[test]
-fn lists_of_literals(rt: HostRuntime) -> Result<(), Fail> {
-    let c = clause(rt.alloc(), &[1, -2])?;
-    assert_eq!(rt;
-        numbers(rt.alloc(), c.as_slice())?.as_slice(),
-        [1, -2].as_slice()
-    );
-    assert_eq!(rt;
-        numbers(rt.alloc(), c.copy()?.as_slice())?.as_slice(),
-        [1, -2].as_slice()
-    );
-    assert_eq!(rt;
-        (c.len(), c.is_empty(), top_variable(c.as_slice())),
-        (2, false, 2)
-    );
-    let mut cs = Clauses::new(rt.alloc());
-    assert!(rt; cs.is_empty());
-    cs.push(c)?;
-    assert_eq!(rt; cs.len(), 1);
-    let first = cs.get(0).ok_or("a clause")?;
-    assert_eq!(rt;
-        numbers(rt.alloc(), first.as_slice())?.as_slice(),
-        [1, -2].as_slice()
-    );
-    assert!(rt; cs.get(1).is_none());
-    Ok(())
+fn has_two(guards: &Guards) -> bool {
+    let same = guards.as_slice().iter().map(|v| v.index()).eq([3, 1]);
+    same && guards.len() == 2 && !guards.is_empty()
+}
+
+/// Whether a list of guards is what was pushed, and its copy too.
+fn guards_hold(alloc: Global) -> Option<bool> {
+    let mut guards = Guards::new(alloc);
+    guards.push(Var::new(3)?).ok()?;
+    guards.push(Var::new(1)?).ok()?;
+    let again = Guards::from_vec(guards.copy().ok()?.into_vec());
+    Some(has_two(&guards) && has_two(&again))
+}
+
+/// Variable 1 of two made true.
+fn first_true(alloc: Global) -> Option<Assign> {
+    let mut a = Assign::falses(alloc, 2).ok()?;
+    a.set(Var::new(1)?, true);
+    Some(Assign::from_vec(a.into_vec()))
+}
+
+/// Whether an assignment of two variables satisfies the clause; None where it has others.
+fn satisfies(alloc: Global, numbers: &[i32]) -> Option<bool> {
+    let a = first_true(alloc)?;
+    let c = clause(alloc, numbers)?;
+    if top_variable(c.as_slice()) > a.len() {
+        return None;
+    }
+    Some(a.satisfies(c.as_slice()))
+}
+
+fn tells_first(a: &Assign) -> Option<bool> {
+    let v = Var::new(1)?;
+    if a.len() != 2 || a.as_slice().len() != 2 {
+        return None;
+    }
+    Some(a.get(v) && a.makes_true(v.positive()) && !a.makes_true(v.negative()))
 }
 
 #[test]
-fn vectors_and_back(rt: HostRuntime) -> Result<(), Fail> {
-    let cs = Clauses::from_vec(vec![in rt.alloc(); clause(rt.alloc(), &[-4, 3])?]?);
-    assert_eq!(rt; cs.as_slice().len(), 1);
-    for c in cs.into_vec() {
-        let c = Lits::from_vec(c.into_vec());
-        assert_eq!(rt;
-            numbers(rt.alloc(), c.as_slice())?.as_slice(),
-            [-4, 3].as_slice()
-        );
-    }
-    let a = Assign::from_vec(vec![in rt.alloc(); true, false]?);
-    assert_eq!(rt; a.as_slice(), [true, false].as_slice());
-    assert_eq!(rt; a.into_vec().len(), 2);
-    Ok(())
+fn codes(rt: HostRuntime) {
+    assert!(rt; MAX_VAR == 16_777_216);
+    assert!(rt; codes_are_right());
+    assert!(rt; is_edge(7, 3, true, 6) && is_edge(0, 0, false, 1));
 }
 
 #[test]
-fn assignments(rt: HostRuntime) -> Result<(), Fail> {
-    let one = Var::new(1).ok_or("a variable")?;
-    let mut a = Assign::falses(rt.alloc(), 2)?;
-    assert_eq!(rt; (a.len(), a.get(one)), (2, false));
-    a.set(one, true);
-    assert!(rt; a.get(one) && a.makes_true(one.positive()) && !a.makes_true(one.negative()));
-    for (clause_numbers, satisfied) in [
-        ([-1, 2], Some(false)),
-        ([1, -2], Some(true)),
-        ([1, 3], None),
-    ] {
-        let c = clause(rt.alloc(), &clause_numbers)?;
-        assert_eq!(rt; holds(&a, c.as_slice()), satisfied);
-    }
-    assert_eq!(rt; holds(&a, &[]), Some(false));
-    Ok(())
+fn lists(rt: HostRuntime) {
+    assert!(rt; list_holds(rt.alloc()) == Some(true));
+    assert!(rt; clauses_hold(rt.alloc()) == Some(true));
+    assert!(rt; guards_hold(rt.alloc()) == Some(true));
+}
+
+#[test]
+fn assignments(rt: HostRuntime) {
+    let told = first_true(rt.alloc()).and_then(|a| tells_first(&a));
+    assert!(rt; told == Some(true));
+    assert!(rt; satisfies(rt.alloc(), &[-1, 2]) == Some(false));
+    assert!(rt; satisfies(rt.alloc(), &[1, -2]) == Some(true));
+    assert!(rt; satisfies(rt.alloc(), &[]) == Some(false));
 }

@@ -1,12 +1,12 @@
 ghost use Rattle.std.specs.Prelude.{◌≡◌, ◌+◌, ◌*◌, ◌/◌, ◌≤◌};
 ghost use Rattle.std.specs.Option.{SomeIff};
-ghost use Rattle.gi_lit.specs.Literals.{IsVariable};
+ghost use Rattle.gi_lit.specs.Literals.{max_var, IsVariable};
 
 use crate::lit::Lit;
 use std::marker::Model;
 
 /// The greatest variable.
-pub const MAX_VAR: u32 = 1_048_576;
+pub const MAX_VAR: u32 = 16_777_216;
 
 /// A propositional variable, from 1 to `MAX_VAR`. Contracts see its number.
 #[derive(Clone, Copy, Debug, PartialEq, Eq, PartialOrd, Ord, Hash)]
@@ -43,7 +43,7 @@ impl Var {
     pub const fn index(self) -> u32
         ensures value { result ≡ self }
         ensures low { 1 ≤ result }
-        ensures high { result ≤ MAX_VAR }
+        ensures high { result ≤ max_var }
     {
         self.index
     }
