@@ -1,5 +1,5 @@
 // A growing list of bytes.
-ghost use Rattle.std.specs.Prelude.{◌≡◌, ◌++◌, [], List, ℕ, IfOk, OnOk, OnErr};
+ghost use Rattle.std.specs.Prelude.{◌≡◌, ◌++◌, ◌∷◌, [], List, ℕ, IfOk, OnOk, OnErr};
 
 use std::alloc::{AllocError, Global};
 use std::marker::Model;
@@ -41,6 +41,22 @@ impl Bytes {
         ensures err { OnErr result (self.new ≡ self.old) }
     {
         self.held.extend_from_slice(piece)
+    }
+
+    /// Adds one byte at the end. For want of memory nothing changes.
+    pub fn push(&mut self, byte: u8) -> Result<(), AllocError>
+        ensures ok { OnOk result (self.new ≡ self.old ++ byte ∷ []) }
+        ensures err { OnErr result (self.new ≡ self.old) }
+    {
+        self.held.push(byte)?;
+        Ok(())
+    }
+
+    /// Lets all bytes go and keeps their room.
+    pub fn clear(&mut self)
+        ensures { self.new ≡ [] }
+    {
+        self.held.clear();
     }
 
     /// All the bytes, in order.

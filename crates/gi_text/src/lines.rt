@@ -3,6 +3,7 @@ ghost use Rattle.std.specs.Prelude.{◌≡◌, ◌+◌, ◌-◌, ◌≤◌, ◌<
 ghost use Rattle.gi_text.specs.Lines.{Kept, fed, from_lf, line_at, without_front};
 
 use crate::Bytes;
+use crate::parts::{front, skip};
 use crate::queue::Queue;
 use memchr::memchr;
 use std::alloc::{AllocError, Global};
@@ -24,8 +25,21 @@ pub enum Next {
     More,
     /// The input has ended, and nothing is left.
     Done,
-    /// There was no memory for the line. Nothing has changed.
+    /// A line is there, and there was no memory to copy it. Nothing has changed.
     NoMemory,
+}
+
+/// What stands in front of the lines.
+#[derive(Clone, Copy, Debug, PartialEq, Eq)]
+pub enum Look {
+    /// A whole line of so many bytes, its LF not counted. Nothing has changed.
+    Line(u32),
+    /// A whole line of more bytes than the limit. It was let go.
+    Long,
+    /// No whole line is there, and more may come.
+    More,
+    /// The input has ended, and nothing is left.
+    Done,
 }
 
 /// What comes next of the raw bytes.
@@ -37,7 +51,7 @@ pub enum Raw {
     More,
     /// Fewer are there, and the input has ended. They are dropped.
     Cut,
-    /// There was no memory for the bytes. Nothing has changed.
+    /// They are there, and there was no memory to copy them. Nothing has changed.
     NoMemory,
 }
 
@@ -69,7 +83,8 @@ impl Model for Lines {
 }
 
 impl Lines {
-    ghost use Rattle.gi_text.specs.Given.{Gives, GivesFront, GivesRaw};
+    ghost use Rattle.gi_text.specs.Given.{Gives, GivesFront, GivesRaw, IsLine, Looks};
+    ghost use Rattle.gi_text.specs.Lines.{GivesLine};
 
     /// No bytes yet, and lines of at most `MAX_LINE` bytes. Takes no memory.
     pub fn new(alloc: Global) -> Lines
@@ -113,6 +128,57 @@ impl Lines {
         ensures { self.new ≡ record self.old { ended = true } }
     {
         self.ended = true;
+    }
+
+    /// What stands in front. Takes no memory.
+    pub fn look(&mut self) -> Look
+        ensures { Looks result self.old self.new }
+    {
+        match self.find_end() {
+            Some(n) => self.look_at(n),
+            None if !self.ended => {
+                self.wait();
+                Look::More
+            }
+            None if self.held.is_empty() => Look::Done,
+            None => {
+                let n = self.held.len();
+                self.look_at(n)
+            }
+        }
+    }
+
+    // What a whole line of `n` bytes in front is.
+    fn look_at(&mut self, n: usize) -> Look
+        requires { IsLine n self.old }
+        ensures { Looks result self.old self.new }
+    {
+        let most = self.most as usize;
+        if n > most {
+            self.pass(n);
+            return Look::Long;
+        }
+        Look::Line(n as u32)
+    }
+
+    /// The first `n` bytes.
+    pub fn front(&self, n: usize) -> &[u8]
+        requires { n ≤ length self.now.left }
+        ensures { result.now ≡ take n self.now.left }
+    {
+        front(self.held.as_slice(), n)
+    }
+
+    /// Lets a whole line of `n` bytes go, which stands in front.
+    pub fn pass(&mut self, n: usize)
+        requires { IsLine n self.old }
+        ensures { GivesLine (take n self.old.left) self.old self.new }
+    {
+        if n < self.held.len() {
+            self.take_off(n + 1);
+        } else {
+            self.take_off(n);
+        }
     }
 
     /// The next line, if it is whole.
@@ -228,21 +294,4 @@ fn skip_to_lf(bytes: &[u8]) -> &[u8]
         Some(i) => skip(bytes, i),
         None => &[],
     }
-}
-
-// What stands from a place on.
-fn skip(bytes: &[u8], at: usize) -> &[u8]
-    requires { at ≤ length bytes.now }
-    ensures value { result.now ≡ drop at bytes.now }
-    ensures len { length result.now + at ≡ length bytes.now }
-{
-    &bytes[at..]
-}
-
-// What stands up to a place.
-fn front(bytes: &[u8], n: usize) -> &[u8]
-    requires { n ≤ length bytes.now }
-    ensures { result.now ≡ take n bytes.now }
-{
-    &bytes[..n]
 }

@@ -1,198 +1,260 @@
 // Rows from outside, and each call once with ample memory.
-use crate::{Bytes, Digits, Lines, MAX_LINE, Next, Number, Raw, Words, read_digits, read_number};
-use std::alloc::{AllocError, Global};
-use std::test::Fail;
+use crate::{
+    Bytes, Digits, Lines, Look, MAX_LINE, Next, Number, Raw, Words, read_digits, read_number,
+};
+use std::alloc::Global;
 
-// The line that was given, or the answer's name.
-fn shown(alloc: Global, next: Next) -> Result<Vec<u8>, AllocError> {
-    match next {
-        Next::Line(line) => Vec::from_slice(alloc, line.as_slice()),
-        Next::Long => Vec::from_slice(alloc, b"<long>"),
-        Next::More => Vec::from_slice(alloc, b"<more>"),
-        Next::Done => Vec::from_slice(alloc, b"<done>"),
-        Next::NoMemory => Err(AllocError),
+// What a script does with lines.
+#[derive(Clone, Copy)]
+enum Step {
+    Feed(&'static str),
+    End,
+    // What `next_line` gives: a line, or the name of another answer.
+    Gives(&'static str),
+}
+
+const PIECES: [Step; 7] = [
+    Step::Feed("ab"),
+    Step::Gives("<more>"),
+    Step::Feed("c\nd"),
+    Step::Gives("abc"),
+    Step::Gives("<more>"),
+    Step::End,
+    Step::Gives("d"),
+];
+
+const TOO_LONG: [Step; 12] = [
+    Step::Feed("abc\n\nabcd\nef"),
+    Step::Gives("abc"),
+    Step::Gives(""),
+    Step::Gives("<long>"),
+    Step::Gives("<more>"),
+    Step::Feed("gh"),
+    Step::Gives("<more>"),
+    Step::Feed("ij\nk"),
+    Step::End,
+    Step::Gives("<long>"),
+    Step::Gives("k"),
+    Step::Gives("<done>"),
+];
+
+fn gives(lines: &mut Lines, want: &str) -> bool {
+    match lines.next_line() {
+        Next::Line(line) => line.as_slice() == want.as_bytes(),
+        Next::Long => want == "<long>",
+        Next::More => want == "<more>",
+        Next::Done => want == "<done>",
+        Next::NoMemory => false,
     }
 }
 
-// The bytes that were given, or the answer's name.
-fn shown_raw(alloc: Global, raw: Raw) -> Result<Vec<u8>, AllocError> {
+fn follows(lines: &mut Lines, step: Step) -> bool {
+    match step {
+        Step::Feed(piece) => lines.feed(piece.as_bytes()).is_ok(),
+        Step::End => {
+            lines.end();
+            true
+        }
+        Step::Gives(want) => gives(lines, want),
+    }
+}
+
+fn follow(lines: &mut Lines, steps: &[Step]) -> bool {
+    for step in steps {
+        if !follows(lines, *step) {
+            return false;
+        }
+    }
+    true
+}
+
+#[test]
+fn lines_come_in_pieces(rt: HostRuntime) {
+    assert!(rt; follow(&mut Lines::new(rt.alloc()), &PIECES));
+}
+
+#[test]
+fn a_line_is_too_long(rt: HostRuntime) {
+    assert!(rt; follow(&mut Lines::with_limit(rt.alloc(), 3), &TOO_LONG));
+}
+
+// Bytes of a line, each looked for at once.
+fn feeds_bytes(lines: &mut Lines, n: u32) -> bool {
+    for _ in 0..n {
+        if lines.feed(b"a").is_err() || !matches!(lines.next_line(), Next::More) {
+            return false;
+        }
+    }
+    true
+}
+
+// Bytes of a line, in pieces of 1024.
+fn feeds_pieces(lines: &mut Lines, n: u32) -> bool {
+    for _ in 0..n {
+        if lines.feed(&[b'a'; 1024]).is_err() {
+            return false;
+        }
+    }
+    true
+}
+
+fn gives_bytes(lines: &mut Lines, n: usize) -> bool {
+    match lines.next_line() {
+        Next::Line(line) => line.as_slice().len() == n,
+        _ => false,
+    }
+}
+
+const BEHIND_LONG: [Step; 4] = [
+    Step::Feed("aa\nb\n"),
+    Step::Gives("<long>"),
+    Step::Gives("b"),
+    Step::Gives("<more>"),
+];
+
+#[test]
+fn a_long_line_comes_byte_by_byte(rt: HostRuntime) {
+    let mut lines = Lines::new(rt.alloc());
+    assert!(rt; feeds_bytes(&mut lines, MAX_LINE + 1) && follow(&mut lines, &BEHIND_LONG));
+    assert!(rt; feeds_pieces(&mut lines, MAX_LINE / 1024) && follows(&mut lines, Step::Feed("\n")));
+    assert!(rt; gives_bytes(&mut lines, 1_048_576));
+}
+
+fn is_raw(raw: Raw, want: &str) -> bool {
     match raw {
-        Raw::Bytes(bytes) => Vec::from_slice(alloc, bytes.as_slice()),
-        Raw::More => Vec::from_slice(alloc, b"<more>"),
-        Raw::Cut => Vec::from_slice(alloc, b"<cut>"),
-        Raw::NoMemory => Err(AllocError),
+        Raw::Bytes(bytes) => bytes.as_slice() == want.as_bytes(),
+        Raw::More => want == "<more>",
+        Raw::Cut => want == "<cut>",
+        Raw::NoMemory => false,
     }
 }
 
-#[test]
-fn bytes_grow(rt: HostRuntime) -> Result<(), Fail> {
-    let mut bytes = Bytes::new(rt.alloc());
-    bytes.extend(b"ab")?;
-    assert_eq!(rt; bytes.as_slice(), b"ab".as_slice());
-    Ok(())
-}
-
-#[test]
-fn lines_come_in_pieces(rt: HostRuntime) -> Result<(), Fail> {
-    let alloc = rt.alloc();
+fn cuts_raw_bytes(alloc: Global) -> bool {
     let mut lines = Lines::new(alloc);
-    lines.feed(b"ab")?;
-    assert_eq!(rt;
-        shown(alloc, lines.next_line())?.as_slice(),
-        b"<more>".as_slice()
-    );
-    lines.feed(b"c\nd")?;
-    assert_eq!(rt;
-        shown(alloc, lines.next_line())?.as_slice(),
-        b"abc".as_slice()
-    );
-    assert_eq!(rt;
-        shown(alloc, lines.next_line())?.as_slice(),
-        b"<more>".as_slice()
-    );
+    if lines.feed(b"xyz").is_err() || !is_raw(lines.take_raw(2), "xy") {
+        return false;
+    }
+    if !is_raw(lines.take_raw(2), "<more>") {
+        return false;
+    }
     lines.end();
-    assert_eq!(rt;
-        shown(alloc, lines.next_line())?.as_slice(),
-        b"d".as_slice()
-    );
-    assert_eq!(rt;
-        shown(alloc, lines.next_line())?.as_slice(),
-        b"<done>".as_slice()
-    );
-    Ok(())
+    is_raw(lines.take_raw(2), "<cut>") && gives(&mut lines, "<done>")
 }
 
 #[test]
-fn raw_bytes_are_cut(rt: HostRuntime) -> Result<(), Fail> {
-    let alloc = rt.alloc();
+fn raw_bytes_are_cut(rt: HostRuntime) {
+    assert!(rt; cuts_raw_bytes(rt.alloc()));
+}
+
+fn looks(alloc: Global) -> bool {
     let mut lines = Lines::new(alloc);
-    lines.feed(b"xyz")?;
-    assert_eq!(rt;
-        shown_raw(alloc, lines.take_raw(2))?.as_slice(),
-        b"xy".as_slice()
-    );
-    assert_eq!(rt;
-        shown_raw(alloc, lines.take_raw(2))?.as_slice(),
-        b"<more>".as_slice()
-    );
-    lines.end();
-    assert_eq!(rt;
-        shown_raw(alloc, lines.take_raw(2))?.as_slice(),
-        b"<cut>".as_slice()
-    );
-    assert_eq!(rt;
-        shown(alloc, lines.next_line())?.as_slice(),
-        b"<done>".as_slice()
-    );
-    Ok(())
+    if lines.feed(b"abc\nd").is_err() || lines.look() != Look::Line(3) {
+        return false;
+    }
+    gives(&mut lines, "abc") && lines.look() == Look::More
 }
 
 #[test]
-fn a_line_is_too_long(rt: HostRuntime) -> Result<(), Fail> {
-    let alloc = rt.alloc();
-    let mut lines = Lines::with_limit(alloc, 3);
-    lines.feed(b"abc\n\nabcd\nef")?;
-    for want in ["abc", "", "<long>", "<more>"] {
-        assert_eq!(rt;
-            shown(alloc, lines.next_line())?.as_slice(),
-            want.as_bytes()
-        );
-    }
-    lines.feed(b"gh")?;
-    assert_eq!(rt;
-        shown(alloc, lines.next_line())?.as_slice(),
-        b"<more>".as_slice()
-    );
-    lines.feed(b"ij\nk")?;
-    lines.end();
-    for want in ["<long>", "k", "<done>"] {
-        assert_eq!(rt;
-            shown(alloc, lines.next_line())?.as_slice(),
-            want.as_bytes()
-        );
-    }
-    Ok(())
+fn a_line_is_looked_at(rt: HostRuntime) {
+    assert!(rt; looks(rt.alloc()));
 }
 
-// One line more than the limit, byte by byte, each looked for at once.
+fn grows(alloc: Global) -> bool {
+    let mut bytes = Bytes::new(alloc);
+    if bytes.extend(b"ab").is_err() || bytes.push(b'c').is_err() {
+        return false;
+    }
+    let grown = bytes.as_slice() == b"abc".as_slice();
+    bytes.clear();
+    grown && bytes.as_slice().is_empty()
+}
+
 #[test]
-fn a_long_line_comes_byte_by_byte(rt: HostRuntime) -> Result<(), Fail> {
-    let alloc = rt.alloc();
-    let mut lines = Lines::new(alloc);
-    for _ in 0..=MAX_LINE {
-        lines.feed(b"a")?;
-        assert!(rt; matches!(lines.next_line(), Next::More));
+fn bytes_grow(rt: HostRuntime) {
+    assert!(rt; grows(rt.alloc()));
+}
+
+// Whether the words of a line are these, each with a `/` behind it.
+fn has_words(line: &[u8], want: &str) -> bool {
+    let mut rest = want.as_bytes();
+    for word in Words::new(line) {
+        match rest.strip_prefix(word) {
+            Some([b'/', behind @ ..]) => rest = behind,
+            _ => return false,
+        }
     }
-    lines.feed(b"aa\nb\n")?;
-    for want in ["<long>", "b", "<more>"] {
-        assert_eq!(rt;
-            shown(alloc, lines.next_line())?.as_slice(),
-            want.as_bytes()
-        );
-    }
-    for _ in 0..MAX_LINE {
-        lines.feed(b"a")?;
-    }
-    lines.feed(b"\n")?;
-    assert_eq!(rt; shown(alloc, lines.next_line())?.len(), 1_048_576);
-    Ok(())
+    rest.is_empty()
 }
 
 #[test]
 fn words_are_runs(rt: HostRuntime) {
-    let mut words = Words::new(b" add\t1  -2\r0\r");
-    for want in ["add", "1", "-2", "0"] {
-        assert_eq!(rt; words.next(), Some(want.as_bytes()));
-    }
-    assert!(rt; words.next().is_none());
-    assert_eq!(rt; Words::new(b" \r").count(), 0);
+    assert!(rt; has_words(b" add\t1  -2\r0\r", "add/1/-2/0/"));
+    assert!(rt; has_words(b" \r", ""));
+}
+
+const NUMBERS: [(&str, Number); 14] = [
+    ("0", Number::Value(0)),
+    ("-1", Number::Value(-1)),
+    ("007", Number::Value(7)),
+    ("4294967295", Number::Value(4_294_967_295)),
+    ("-4294967295", Number::Value(-4_294_967_295)),
+    ("4294967296", Number::TooBig),
+    ("-4294967296", Number::TooBig),
+    ("99999999999999999999", Number::TooBig),
+    ("", Number::NotNumber),
+    ("-", Number::NotNumber),
+    ("-0", Number::NotNumber),
+    ("-00", Number::NotNumber),
+    ("+1", Number::NotNumber),
+    ("1x", Number::NotNumber),
+];
+
+fn is_number(word: &str, want: Number) -> bool {
+    read_number(word.as_bytes()) == want
 }
 
 #[test]
 fn numbers_are_read(rt: HostRuntime) {
-    for (word, want) in [
-        ("0", Number::Value(0)),
-        ("-1", Number::Value(-1)),
-        ("007", Number::Value(7)),
-        ("4294967295", Number::Value(4_294_967_295)),
-        ("-4294967295", Number::Value(-4_294_967_295)),
-        ("4294967296", Number::TooBig),
-        ("-4294967296", Number::TooBig),
-        ("99999999999999999999", Number::TooBig),
-        ("", Number::NotNumber),
-        ("-", Number::NotNumber),
-        ("-0", Number::NotNumber),
-        ("-00", Number::NotNumber),
-        ("+1", Number::NotNumber),
-        ("1x", Number::NotNumber),
-    ] {
-        assert_eq!(rt; read_number(word.as_bytes()), want, "{word}");
+    for (word, want) in NUMBERS {
+        assert!(rt; is_number(word, want), "{word}");
     }
+}
+
+const SPELLINGS: [(i128, &str); 4] = [
+    (0, "0"),
+    (-1, "-1"),
+    (170, "170"),
+    (i128::MIN, "-170141183460469231731687303715884105728"),
+];
+
+fn is_spelled(n: i128, want: &str) -> bool {
+    Digits::of(n).as_slice() == want.as_bytes()
 }
 
 #[test]
 fn digits_are_written(rt: HostRuntime) {
-    for (n, want) in [
-        (0, "0"),
-        (-1, "-1"),
-        (170, "170"),
-        (i128::MIN, "-170141183460469231731687303715884105728"),
-    ] {
-        assert_eq!(rt; Digits::of(n).as_slice(), want.as_bytes());
+    for (n, want) in SPELLINGS {
+        assert!(rt; is_spelled(n, want), "{want}");
     }
+}
+
+const DIGITS: [(&str, Option<u64>); 7] = [
+    ("0", Some(0)),
+    ("18446744073709551615", Some(u64::MAX)),
+    ("18446744073709551616", None),
+    ("01", None),
+    ("-1", None),
+    ("+1", None),
+    ("", None),
+];
+
+fn are_digits(word: &str, want: Option<u64>) -> bool {
+    read_digits(word.as_bytes()) == want
 }
 
 #[test]
 fn digits_are_read(rt: HostRuntime) {
-    for (word, want) in [
-        ("0", Some(0)),
-        ("18446744073709551615", Some(u64::MAX)),
-        ("18446744073709551616", None),
-        ("01", None),
-        ("-1", None),
-        ("+1", None),
-        ("", None),
-    ] {
-        assert_eq!(rt; read_digits(word.as_bytes()), want, "{word}");
+    for (word, want) in DIGITS {
+        assert!(rt; are_digits(word, want), "{word}");
     }
 }

@@ -3,6 +3,7 @@ ghost use Rattle.std.specs.Prelude.{◌≡◌, ◌≢◌, ◌≤◌, ◌<◌, �
 ghost use Rattle.std.specs.Iterator.{YieldsFirstRef, item_count};
 ghost use Rattle.gi_text.specs.Words.{is_white, words_of};
 
+use crate::parts::skip;
 use std::marker::Model;
 
 /// The words of a line, from the front: the maximal runs of bytes other than space, tab and CR.
@@ -79,13 +80,4 @@ fn is_white_byte(b: u8) -> bool
     ensures { result ≡ is_white b }
 {
     matches!(b, b' ' | b'\t' | b'\r')
-}
-
-// What stands from a place on.
-fn skip(bytes: &[u8], at: usize) -> &[u8]
-    requires { at ≤ length bytes.now }
-    ensures value { result.now ≡ drop at bytes.now }
-    ensures len { length result.now + at ≡ length bytes.now }
-{
-    &bytes[at..]
 }
