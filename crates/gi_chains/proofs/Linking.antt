@@ -2,7 +2,7 @@ use Rattle.std.proofs.Common.{◌≡◌, ℕ, zero, suc, ◌-◌, ◌<◌, ◌�
 use Rattle.std.specs.List.{slice_get}
 use Rattle.std.proofs.lemmas.Bool.{cases_lt, eqb-true}
 use Rattle.std.proofs.lemmas.Option.{slice_get_past, slice_get-get_or}
-use Rattle.std.proofs.lemmas.List.{get_or_read, get_or_default, drop_more, drop_all, get_or-map, same_lists}
+use Rattle.std.proofs.lemmas.List.{get_or_default, drop_more, drop_all, get_or-map, same_lists}
 use Rattle.std.proofs.lemmas.List.{length-map}
 use Rattle.std.proofs.lemmas.List.Elements.{recursion_from_All}
 use Rattle.std.proofs.Common.{eqb}
@@ -12,8 +12,8 @@ use Rattle.std.specs.Option.{MatchOption}
 use Rattle.std.proofs.lemmas.Map.Steps.{length-le_from_distinct_below}
 use Rattle.std.proofs.lemmas.Map.Views.{Contains-from_any}
 use Rattle.std.specs.List.{Contains}
-use Rattle.gi_chains.specs.Lists.{Lists, items_at, StandsAt, IsFree, IsApart}
-use Rattle.gi_chains.specs.Links.{blank, no_ends, node_at, walk, walked, IsChained}
+use Rattle.gi_chains.specs.Lists.{items_at, StandsAt, IsFree, IsApart}
+use Rattle.gi_chains.specs.Links.{no_ends, node_at, walk, walked, IsChained}
 use Rattle.gi_chains.specs.declared.node.Node.{Node}
 use Rattle.gi_chains.specs.declared.node.Ends.{Ends}
 
@@ -62,11 +62,12 @@ module _ (ends : List Ends) (nodes : List Node) (lists : List (List ℕ)) (h : I
       let same : get_or (items_at lists l) i 0 ≡ get_or (items_at lists l) j 0 = some_injective _ _ (sym f ∙ e ∙ g) in
       ap suc (one_place l i j (get_or (items_at lists l) i 0) (record { list = a.list; place = il; item = refl }) (record { list = a.list; place = jl; item = sym same }))
 
-  pub apart : IsApart (record { lists = lists; nodes = length nodes })
-  apart = record {
-    within = h.within;
+  pub apart : (n : ℕ) → length nodes ≡ n → (words : List ℕ) → length words ≡ n → IsApart (record { lists = lists; nodes = n; words = words })
+  apart n e words w = record {
+    within = λ l i k s. subst (λ z. k < z) e (h.within l i k s);
     same_list = one_list;
     same_place = λ l i m j k a b. let e : l ≡ m = one_list l i m j k a b in one_place m i j k (subst (λ (n : ℕ). StandsAt lists n i k) e a) b;
+    worded = w;
   }
 
   -- what is read at a node says which list it stands in
@@ -109,23 +110,7 @@ module _ (ends : List Ends) (nodes : List Node) (lists : List (List ℕ)) (h : I
       ∙ walk-drop l ll (length nodes) 0 (let s = short l ll in omega arith)
       ∙ get_or_default lists l [] d ll)
 
--- what is left of a call on the fields: the invariant, and the view
-pub settled : (es ends : List Ends) (ns nodes : List Node) (lists : List (List ℕ)) → es ≡ ends → ns ≡ nodes → IsChained ends nodes lists → IsChained es ns (walked es ns)
-settled es ends ns nodes lists a b h =
-    subst (λ (x : List Ends). IsChained x ns (walked x ns)) (sym a) (subst (λ (x : List Node). IsChained ends x (walked ends x)) (sym b) (subst (IsChained ends nodes) (sym (walked-same ends nodes lists h)) h))
-
-pub viewed : (es ends : List Ends) (ns nodes : List Node) (lists : List (List ℕ)) → es ≡ ends → ns ≡ nodes → IsChained ends nodes lists → (n : ℕ) → length nodes ≡ n → (ls : List (List ℕ)) → lists ≡ ls → ◌≡◌ {A = Lists} (record { lists = walked es ns; nodes = length ns }) (record { lists = ls; nodes = n })
-viewed es ends ns nodes lists a b h n e ls f =
-    let made : List (List ℕ) → ℕ → Lists = λ x y. record { lists = x; nodes = y } in
-    ap (λ x. made (walked x ns) (length ns)) a ∙ ap (λ x. made (walked ends x) (length x)) b ∙ ap (λ x. made x (length nodes)) (walked-same ends nodes lists h ∙ f) ∙ ap (made ls) e
-
 -- what is read at a node
 pub read_list : (ends : List Ends) (nodes : List Node) (lists : List (List ℕ)) → IsChained ends nodes lists → (k : ℕ) (o : Option ℕ) → (node_at nodes k).list ≡ o → MatchOption o (IsFree lists k) (λ l. (i : ℕ) × StandsAt lists l i k)
 read_list ends nodes lists h k None e = free_none ends nodes lists h k e
 read_list ends nodes lists h k (Some l) e = h.home k l e
-
--- what is read at a node that stands in a list, by what contracts see
-pub own_list : (ends : List Ends) (nodes : List Node) → IsChained ends nodes (walked ends nodes) → (v : Lists) → ◌≡◌ {A = Lists} (record { lists = walked ends nodes; nodes = length nodes }) v → (l i k : ℕ) → StandsAt v.lists l i k → (n : Node) → n ≡ get_or nodes k n → n.list ≡ Some l
-own_list ends nodes h v e l i k s n r =
-    let t : StandsAt (walked ends nodes) l i k = subst (λ (v : Lists). StandsAt v.lists l i k) (sym e) s in
-    ap (λ (n : Node). n.list) (get_or_read nodes k n (h.within l i k t) r blank ∙ h.linked l i k t)

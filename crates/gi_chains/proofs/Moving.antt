@@ -5,7 +5,7 @@ use Rattle.std.proofs.lemmas.List.{set-set}
 use Rattle.std.proofs.lemmas.List.Edits.{length-remove, get_or-remove_below, get_or-remove_above}
 use Rattle.gi_chains.specs.Lists.{items_at, StandsAt, IsFree, IsApart}
 
-module _ (lists : List (List ℕ)) (n : ℕ) (apart : IsApart (record { lists = lists; nodes = n })) (l i k : ℕ) (s : StandsAt lists l i k) where
+module _ (lists : List (List ℕ)) (n : ℕ) (words : List ℕ) (apart : IsApart (record { lists = lists; nodes = n; words = words })) (l i k : ℕ) (s : StandsAt lists l i k) where
   -- a node that was taken out stands nowhere
   pub IsFree-unlinked : IsFree (set lists l (remove (items_at lists l) i)) k
   IsFree-unlinked m j t = go (cases_eq m l)

@@ -191,20 +191,23 @@ module _ (ends : List Ends) (nodes : List Node) (lists : List (List ℕ)) (h : I
     abbrev new : Option ℕ → Option ℕ → Node
     new p n = record { list = Some l; prev = p; next = n }
 
+    abbrev made_in : Option ℕ → Option ℕ → Option ℕ → Node
+    made_in o p n = record { list = o; prev = p; next = n }
+
     abbrev both : Option ℕ → Option ℕ → Ends
     both f b = record { first = f; last = b }
 
     -- what the code leaves
-    pub front_chained : (n s t r : Option ℕ) → n ≡ None → s ≡ Some k → t ≡ Some k → r ≡ option_or e.last (Some k) → (ns : List Node) → ns ≡ with_prev (set nodes k (new n e.first)) e.first s → IsChained (set ends l (both t r)) ns (set lists l (k ∷ xs))
-    front_chained n s t r ni si ti ri ns nsi =
-        let same : ns ≡ fronted = nsi ∙ ap (λ o. with_prev (set nodes k (new o e.first)) e.first s) ni ∙ ap (λ o. with_prev (set nodes k (new None e.first)) e.first o) si ∙ ap (λ (e : Ends). with_prev (set nodes k (new None e.first)) e.first (Some k)) e_is in
+    pub front_chained : (o n s t r : Option ℕ) → o ≡ Some l → n ≡ None → s ≡ Some k → t ≡ Some k → r ≡ option_or e.last (Some k) → (ms ns : List Node) → ms ≡ set nodes k (made_in o n e.first) → ns ≡ with_prev ms e.first s → IsChained (set ends l (both t r)) ns (set lists l (k ∷ xs))
+    front_chained o n s t r oi ni si ti ri ms ns msi nsi =
+        let same : ns ≡ fronted = nsi ∙ ap (λ (z : List Node). with_prev z e.first s) (msi ∙ ap (λ z. set nodes k (made_in z n e.first)) oi) ∙ ap (λ o. with_prev (set nodes k (new o e.first)) e.first s) ni ∙ ap (λ o. with_prev (set nodes k (new None e.first)) e.first o) si ∙ ap (λ (e : Ends). with_prev (set nodes k (new None e.first)) e.first (Some k)) e_is in
         let ends_are : both t r ≡ ends_of (k ∷ xs) = ap (λ o. both o r) ti ∙ front_ends k xs e r e_is ri in
         subst (λ (z : List Node). IsChained (set ends l (both t r)) z (set lists l (k ∷ xs))) (sym same)
         (subst (λ (z : Ends). IsChained (set ends l z) fronted (set lists l (k ∷ xs))) (sym ends_are) (IsChained-edit ends nodes lists h fronted l ll (k ∷ xs) k front_edit))
 
-    pub back_chained : (n s t r : Option ℕ) → n ≡ None → s ≡ Some k → t ≡ Some k → r ≡ option_or e.first (Some k) → (ns : List Node) → ns ≡ with_next (set nodes k (new e.last n)) e.last s → IsChained (set ends l (both r t)) ns (set lists l (xs ++ k ∷ []))
-    back_chained n s t r ni si ti ri ns nsi =
-        let same : ns ≡ backed = nsi ∙ ap (λ o. with_next (set nodes k (new e.last o)) e.last s) ni ∙ ap (λ o. with_next (set nodes k (new e.last None)) e.last o) si ∙ ap (λ (e : Ends). with_next (set nodes k (new e.last None)) e.last (Some k)) e_is in
+    pub back_chained : (o n s t r : Option ℕ) → o ≡ Some l → n ≡ None → s ≡ Some k → t ≡ Some k → r ≡ option_or e.first (Some k) → (ms ns : List Node) → ms ≡ set nodes k (made_in o e.last n) → ns ≡ with_next ms e.last s → IsChained (set ends l (both r t)) ns (set lists l (xs ++ k ∷ []))
+    back_chained o n s t r oi ni si ti ri ms ns msi nsi =
+        let same : ns ≡ backed = nsi ∙ ap (λ (z : List Node). with_next z e.last s) (msi ∙ ap (λ z. set nodes k (made_in z e.last n)) oi) ∙ ap (λ o. with_next (set nodes k (new e.last o)) e.last s) ni ∙ ap (λ o. with_next (set nodes k (new e.last None)) e.last o) si ∙ ap (λ (e : Ends). with_next (set nodes k (new e.last None)) e.last (Some k)) e_is in
         let ends_are : both r t ≡ ends_of (xs ++ k ∷ []) = ap (both r) ti ∙ back_ends k xs e r e_is ri in
         subst (λ (z : List Node). IsChained (set ends l (both r t)) z (set lists l (xs ++ k ∷ []))) (sym same)
         (subst (λ (z : Ends). IsChained (set ends l z) backed (set lists l (xs ++ k ∷ []))) (sym ends_are) (IsChained-edit ends nodes lists h backed l ll (xs ++ k ∷ []) k back_edit))

@@ -227,10 +227,10 @@ module _ (ends : List Ends) (nodes : List Node) (lists : List (List ℕ)) (h : I
     both : Option ℕ → Option ℕ → Ends
     both f b = record { first = f; last = b }
 
-    pub cut_chained : (f b p q : Option ℕ) → f ≡ kept_if_some n.prev e.first n.next → b ≡ kept_if_some n.next e.last n.prev → p ≡ None → q ≡ None → (ms ns : List Node) → ms ≡ with_next nodes n.prev n.next → ns ≡ with_prev ms n.next n.prev → IsChained (set ends m (record { first = f; last = b })) (set ns k (record { list = None; prev = p; next = q })) (set lists l (remove xs i))
-    cut_chained f b p q fi bi pi qi ms ns msi nsi =
+    pub cut_chained : (f b o p q : Option ℕ) → f ≡ kept_if_some n.prev e.first n.next → b ≡ kept_if_some n.next e.last n.prev → o ≡ None → p ≡ None → q ≡ None → (ms ns os : List Node) → ms ≡ with_next nodes n.prev n.next → ns ≡ with_prev ms n.next n.prev → os ≡ set ns k (record { list = o; prev = p; next = q }) → IsChained (set ends m (record { first = f; last = b })) os (set lists l (remove xs i))
+    cut_chained f b o p q fi bi oi pi qi ms ns os msi nsi osi =
         let new : Ends = record { first = f; last = b } in
-        let gone : Option ℕ → Option ℕ → Node = λ p q. record { list = None; prev = p; next = q } in
+        let gone : Option ℕ → Option ℕ → Option ℕ → Node = λ o p q. record { list = o; prev = p; next = q } in
         let ends_are : new ≡ ends_of (remove xs i) =
         ap (λ o. let z : Ends = record { first = o; last = b } in z) fi
         ∙ ap (λ o. let z : Ends = record { first = kept_if_some n.prev e.first n.next; last = o } in z) bi
@@ -238,11 +238,13 @@ module _ (ends : List Ends) (nodes : List Node) (lists : List (List ℕ)) (h : I
         ∙ ap (cut_ends (node_in l xs i)) at
         ∙ ap (λ o. let z : Ends = record { first = o; last = kept_if_some (slice_get xs (suc i)) (slice_get xs (length xs - 1)) (before xs i) } in z) (first_kept xs i il)
         ∙ ap (λ o. let z : Ends = record { first = slice_get (remove xs i) 0; last = o } in z) (last_kept xs i il) in
-        let nodes_are : set ns k (gone p q) ≡ unlinked =
-        ap (λ o. set ns k (gone o q)) pi
-        ∙ ap (λ o. set ns k (gone None o)) qi
+        let nodes_are : os ≡ unlinked =
+        osi
+        ∙ ap (λ z. set ns k (gone z p q)) oi
+        ∙ ap (λ z. set ns k (gone None z q)) pi
+        ∙ ap (λ z. set ns k (gone None None z)) qi
         ∙ ap (λ (z : List Node). set z k blank) (nsi ∙ ap (λ (z : List Node). with_prev z n.next n.prev) msi ∙ ap cut_nodes node) in
-        subst (λ (z : ℕ). IsChained (set ends z new) (set ns k (gone p q)) (set lists l (remove xs i))) same
+        subst (λ (z : ℕ). IsChained (set ends z new) os (set lists l (remove xs i))) same
         (subst (λ (z : List Node). IsChained (set ends l new) z (set lists l (remove xs i))) (sym nodes_are)
         (subst (λ (z : Ends). IsChained (set ends l z) unlinked (set lists l (remove xs i))) (sym ends_are) (IsChained-edit ends nodes lists h unlinked l s.list (remove xs i) k unlink_edit)))
 
@@ -279,3 +281,7 @@ module _ (ends : List Ends) (nodes : List Node) (lists : List (List ℕ)) (h : I
 
   pub next_exists : (n : Node) → n ≡ get_or nodes k n → IfSome n.next (λ q. q < length nodes)
   next_exists n r = some_if (λ q. q < length nodes) n.next (λ q e. item_exists (suc linked.1) q (ap (λ (n : Node). n.next) (sym (node_is n r)) ∙ e))
+
+-- what is read where a node exists
+pub read_at : (nodes : List Node) (k : ℕ) (n : Node) → k < length nodes → n ≡ node_at nodes k → n ≡ get_or nodes k n
+read_at nodes k n lt e = e ∙ sym (get_or_default nodes k n blank lt)

@@ -2,17 +2,21 @@ use Rattle.std.proofs.Common.{ap, ◌∙◌, length, ℕ, List, [], ◌∷◌, �
 use Rattle.std.proofs.lemmas.List.{with_items_is}
 use Rattle.gi_chains.specs.Links.{walked}
 use Rattle.gi_chains.specs.Lists.{Lists, items_at}
-use Rattle.gi_chains.proofs.Linking.{apart, settled, viewed}
+use Rattle.gi_chains.specs.Seats.{nodes_of, words_of}
+use Rattle.gi_chains.proofs.Keeping.{kept_apart, settled, viewed, few}
 use Rattle.gi_chains.proofs.chains.Chains.push_back.Goals as goal
 
 pub invariant_of-self : goal.invariant_of-self
-invariant_of-self c = settled _ _ _ _ _ (with_items_is c.self.inside.ends _ (c.link_back.auto.ends ∙ c.deref_mut.ensures.len)) (with_items_is c.self.inside.nodes _ (c.link_back.auto.nodes ∙ c.deref_mut-2.ensures.len)) c.link_back.ensures
+invariant_of-self c =
+    settled _ _ _ _ _ (with_items_is c.self.inside.ends _ (c.link_back.auto.ends ∙ c.deref_mut.ensures.len)) (with_items_is c.self.inside.seats _ (c.link_back.auto.seats ∙ c.deref_mut-2.ensures.len)) c.link_back.ensures.chained
+    (few _ _ (c.link_back.auto.ends ∙ ap length c.deref_mut.ensures.value) c.self.invariant.few_lists) (few _ _ (c.link_back.auto.seats ∙ ap length c.deref_mut-2.ensures.value) c.self.invariant.few_nodes)
 
 pub returns-clause-after : goal.returns-clause-after
 returns-clause-after c =
-    viewed _ _ _ _ _ (with_items_is c.self.inside.ends _ (c.link_back.auto.ends ∙ c.deref_mut.ensures.len)) (with_items_is c.self.inside.nodes _ (c.link_back.auto.nodes ∙ c.deref_mut-2.ensures.len)) c.link_back.ensures
-    _ (c.link_back.auto.nodes ∙ ap length c.deref_mut-2.ensures.value ∙ ap (λ (v : Lists). v.nodes) c.self.view_is)
-    _ (ap (λ (ls : List (List ℕ)). set ls c.args.list (items_at ls c.args.list ++ c.args.node ∷ [])) (ap (λ e. walked e c.deref_mut-2.result.now) c.deref_mut.ensures.value ∙ ap (walked c.self.inside.ends.items) c.deref_mut-2.ensures.value ∙ ap (λ (v : Lists). v.lists) c.self.view_is))
+    viewed _ _ _ _ _ (with_items_is c.self.inside.ends _ (c.link_back.auto.ends ∙ c.deref_mut.ensures.len)) (with_items_is c.self.inside.seats _ (c.link_back.auto.seats ∙ c.deref_mut-2.ensures.len)) c.link_back.ensures.chained
+    _ (c.link_back.auto.seats ∙ ap length c.deref_mut-2.ensures.value ∙ ap (λ (v : Lists). v.nodes) c.self.view_is)
+    _ (ap (λ (ls : List (List ℕ)). set ls c.args.list (items_at ls c.args.list ++ c.args.node ∷ [])) (ap (λ e. walked e (nodes_of c.deref_mut-2.result.now)) c.deref_mut.ensures.value ∙ ap (λ z. walked c.self.inside.ends.items (nodes_of z)) c.deref_mut-2.ensures.value ∙ ap (λ (v : Lists). v.lists) c.self.view_is))
+    _ (c.link_back.ensures.words ∙ ap words_of c.deref_mut-2.ensures.value ∙ ap (λ (v : Lists). v.words) c.self.view_is)
 
 pub returns-clause-apart : goal.returns-clause-apart
-returns-clause-apart c = apart _ _ _ (settled _ _ _ _ _ (with_items_is c.self.inside.ends _ (c.link_back.auto.ends ∙ c.deref_mut.ensures.len)) (with_items_is c.self.inside.nodes _ (c.link_back.auto.nodes ∙ c.deref_mut-2.ensures.len)) c.link_back.ensures)
+returns-clause-apart c = kept_apart _ _ (invariant_of-self c)

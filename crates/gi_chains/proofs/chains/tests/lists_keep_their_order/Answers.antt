@@ -4,10 +4,10 @@ use Rattle.gi_chains.specs.Lists.{Lists, items_at, StandsAt, with_list}
 use Rattle.gi_chains.proofs.chains.tests.lists_keep_their_order.Goals as goal
 
 abbrev filled : Lists
-filled = record { lists = (1 ∷ 0 ∷ 2 ∷ []) ∷ [] ∷ []; nodes = 3 }
+filled = record { lists = (1 ∷ 0 ∷ 2 ∷ []) ∷ [] ∷ []; nodes = 3; words = 0 ∷ 9 ∷ 0 ∷ [] }
 
 abbrev unlinked : Lists
-unlinked = record { lists = (1 ∷ 2 ∷ []) ∷ [] ∷ []; nodes = 3 }
+unlinked = record { lists = (1 ∷ 2 ∷ []) ∷ [] ∷ []; nodes = 3; words = 0 ∷ 9 ∷ 0 ∷ [] }
 
 -- the chains behind the call that unlinks node 0, and where node 2 stands there
 after_unlink : (c u : Lists) → c ≡ filled → ((l i : ℕ) → StandsAt c.lists l i 0 → u ≡ with_list c l (remove (items_at c.lists l) i)) → u ≡ unlinked
@@ -24,5 +24,8 @@ two_lists u m e after = subst (λ (v : Lists). 0 < length v.lists) (sym (after 0
 pub move_to_front-requires : goal.move_to_front-requires
 move_to_front-requires g c = (0, 1, at_end _ (after_unlink _ _ c.in_ok-chains.ensures c.unlink.ensures.after))
 
-pub walk-requires-3 : goal.walk-requires-3
-walk-requires-3 g c = two_lists _ _ (after_unlink _ _ c.in_ok-chains.ensures c.unlink.ensures.after) c.move_to_front.ensures.after
+pub is_order-requires-2 : goal.is_order-requires-2
+is_order-requires-2 g c = two_lists _ _ (after_unlink _ _ c.in_ok-chains.ensures c.unlink.ensures.after) c.move_to_front.ensures.after
+
+pub list_of-requires : goal.list_of-requires
+list_of-requires g c = subst (λ (v : Lists). 0 < v.nodes) (sym (after_unlink _ _ c.in_ok-chains.ensures c.unlink.ensures.after)) (lit< tt)
