@@ -1,23 +1,27 @@
 -- All that a store keeps, with its count of literals, after each edit.
-use Rattle.std.proofs.Common.{◌≡◌, ℕ, ◌+◌, ◌-◌, ◌*◌, ◌/◌, ◌<◌, ◌≤◌, true, Some, None, List, [], ◌∷◌, ◌++◌, length, take, drop, set, replicate, refl, sym, ap, ◌∙◌, arith}
-use Rattle.std.specs.List.{Contains, filter, sum_by}
-use Rattle.std.proofs.lemmas.List.Elements.{Contains-append_left, Contains-append_right}
+use Rattle.std.proofs.Common.{◌≡◌, ℕ, ◌+◌, ◌-◌, ◌/◌, ◌<◌, ◌≤◌, true, Some, None, List, [], ◌∷◌, ◌++◌, length, take, drop, map, set, replicate, refl, sym, ap, ◌∙◌, arith}
+use Rattle.std.specs.List.{All, Contains, filter, sum_by}
+use Rattle.std.proofs.lemmas.List.Elements.{All-contains}
 use Rattle.slab.specs.Slab.{Slab, get, Updates}
-use Rattle.gi_lit.specs.Problem.{IsPlain, lit_count, names, without}
-use Rattle.gi_store.specs.Held.{Held, problem_of, IsWithin, with_learnt, with_new_guard, trimmed}
-use Rattle.gi_store.specs.Stored.{clause_at, pair_length, held_of, IsCounted}
+use Rattle.gi_lit.specs.Literals.{max_var}
+use Rattle.gi_lit.specs.Problem.{IsPlain, IsGroup, lit_count, names, negatives, without}
+use Rattle.gi_store.specs.Held.{Held, problem_of, IsWithin, with_learnt, with_new_guard, without_guard_of, trimmed}
+use Rattle.gi_store.specs.declared.group_key.GroupKey.{GroupKey}
+use Rattle.gi_store.specs.Stored.{clause_at, group_at, group_length, held_of, IsKept, IsCounted}
 use Rattle.gi_store.specs.declared.kind.VarKind.{VarKind}
 use Rattle.gi_store.specs.declared.kind.VarKind.TheVariants as kind
-use Rattle.gi_store.proofs.Forgetting.{keeps}
-use Rattle.gi_store.proofs.Views.{held_same, held_plain, held_learnt, held_pair}
-use Rattle.gi_store.proofs.Removing.{left, left_first, held_trimmed}
-use Rattle.gi_store.proofs.Kept.{kept_same, kept_plain, kept_learnt, kept_pair, kept_trimmed, kept_grown, grown_held, kept_next, next_held, kept_again, again_held, kept_without}
-use Rattle.gi_store.proofs.Counting.{sum_fewer, count_parts, count_plain, count_under, count_same, pairs_size_same, plain_size_same}
+use Rattle.gi_store.proofs.Lists.{Contains-filter, Contains-map}
+use Rattle.gi_store.proofs.Edits.{group_in}
+use Rattle.gi_store.proofs.Forgetting.{keeps, spares, IsOther}
+use Rattle.gi_store.proofs.Views.{held_same, held_plain, held_learnt, held_group, placed}
+use Rattle.gi_store.proofs.Removing.{groups_left, held_trimmed}
+use Rattle.gi_store.proofs.Kept.{kept_same, kept_plain, kept_learnt, kept_group, kept_trimmed, kept_grown, grown_held, kept_next, next_held, kept_again, again_held, kept_without, without_held}
+use Rattle.gi_store.proofs.Counting.{HaveGuards, count_parts, count_plain, count_under, count_same}
 
 abbrev size_of : Held → ℕ
 size_of h = lit_count (problem_of h)
 
-module _ (kinds : List VarKind) (s t : Slab (List ℕ)) (p q l a f : List ℕ) (room n : ℕ) (i : IsCounted kinds s p q l a f room n) where
+module _ (kinds : List VarKind) (s t : Slab (List ℕ)) (p : List ℕ) (q : List GroupKey) (l a f : List ℕ) (room n : ℕ) (i : IsCounted kinds s p q l a f room n) where
   abbrev was : Held
   was = held_of (length kinds) s p q l a f
 
@@ -37,10 +41,11 @@ module _ (kinds : List VarKind) (s t : Slab (List ℕ)) (p q l a f : List ℕ) (
       count = ap size_of (held_learnt s t k c vacant u p q l i.kept.stored (length kinds) a f) ∙ count_same was (with_learnt k c was) refl refl ∙ i.count;
     }
 
-    pub counted_pair : (g : ℕ) (d : List ℕ) → c ≡ d ++ (2 * g + 1) ∷ [] → Contains a g → IsPlain (problem_of was) d → (m : ℕ) → m ≡ n + length d → IsCounted kinds t p (q ++ k ∷ []) l a f room m
-    counted_pair g d ends act plain m e = record {
-      kept = kept_pair kinds s t p q l a f room i.kept k c vacant u g d ends act plain;
-      count = ap size_of (held_pair s t k c vacant u p q l i.kept.stored g d ends (length kinds) a f) ∙ count_under k g d was ∙ ap (λ x. x + length d) i.count ∙ sym e;
+    pub counted_group : (gs d : List ℕ) → c ≡ d ++ negatives gs → 0 < length gs → All (Contains a) gs → IsPlain (problem_of was) d → (m : ℕ) → m ≡ n + (length d + (length gs - 1))
+        → IsCounted kinds t p (q ++ placed k gs ∷ []) l a f room m
+    counted_group gs d ends some act plain m e = record {
+      kept = kept_group kinds s t p q l a f room i.kept k c vacant u gs d ends some act plain;
+      count = ap size_of (held_group s t k c vacant u p q l i.kept.stored gs d ends (length kinds) a f) ∙ count_under k gs d was ∙ ap (λ x. x + (length d + (length gs - 1))) i.count ∙ sym e;
     }
 
   pub counted_trimmed : (j : ℕ) → j ≡ length l / 2 → ((k : ℕ) → ¬ Contains (take j l) k → get t k ≡ get s k) → IsCounted kinds t p q (drop j l) a f room n
@@ -49,17 +54,17 @@ module _ (kinds : List VarKind) (s t : Slab (List ℕ)) (p q l a f : List ℕ) (
     count = ap size_of (held_trimmed s t p q l j i.kept.stored others (length kinds) a f half) ∙ count_same was (trimmed was) refl refl ∙ i.count;
   }
 
-module _ (kinds : List VarKind) (s : Slab (List ℕ)) (p q l a f : List ℕ) (room n : ℕ) (i : IsCounted kinds s p q l a f room n) where
+module _ (kinds : List VarKind) (s : Slab (List ℕ)) (p : List ℕ) (q : List GroupKey) (l a f : List ℕ) (room n : ℕ) (i : IsCounted kinds s p q l a f room n) where
   abbrev before : Held
   before = held_of (length kinds) s p q l a f
 
-  pub counted_grown : (m : ℕ) → m ≤ 1048576 → IsCounted (kinds ++ replicate (m - length kinds) kind.Problem) s p q l a f room n
+  pub counted_grown : (m : ℕ) → m ≤ max_var → IsCounted (kinds ++ replicate (m - length kinds) kind.Problem) s p q l a f room n
   counted_grown m limit = record {
     kept = kept_grown kinds s p q l a f room i.kept m limit;
     count = ap size_of (grown_held kinds s p q l a f room i.kept m) ∙ count_same before (record before { vars = _ }) refl refl ∙ i.count;
   }
 
-  pub counted_next : f ≡ [] → (more : ℕ) → length kinds < 1048576 → 1 + length a ≤ more → IsCounted (kinds ++ kind.Active ∷ []) s p q l (a ++ (length kinds + 1) ∷ []) [] more n
+  pub counted_next : f ≡ [] → (more : ℕ) → length kinds < max_var → 1 + length a ≤ more → IsCounted (kinds ++ kind.Active ∷ []) s p q l (a ++ (length kinds + 1) ∷ []) [] more n
   counted_next e more limit rooms = record {
     kept = kept_next kinds s p q l a f room i.kept e more limit rooms;
     count = ap size_of (next_held kinds s p q l a f room i.kept e) ∙ count_same before (with_new_guard before) refl refl ∙ i.count;
@@ -71,38 +76,43 @@ module _ (kinds : List VarKind) (s : Slab (List ℕ)) (p q l a f : List ℕ) (ro
     count = ap size_of (again_held kinds s p q l a f room i.kept g rest e) ∙ count_same before (with_new_guard before) refl refl ∙ i.count;
   }
 
-module _ (kinds : List VarKind) (s m t : Slab (List ℕ)) (p q l a f : List ℕ) (room n : ℕ) (i : IsCounted kinds s p q l a f room n) (g : ℕ) (act : Contains a g)
-    (first : (k : ℕ) → ¬ (Contains q k × (names g (clause_at s k) ≡ true)) → get m k ≡ get s k)
+-- each group has a guard
+guarded_all : (kinds : List VarKind) (s : Slab (List ℕ)) (p : List ℕ) (q : List GroupKey) (l a f : List ℕ) (room : ℕ) → IsKept kinds s p q l a f room → HaveGuards s q
+guarded_all kinds s p q l a f room i g c =
+    let x : IsGroup (problem_of (held_of (length kinds) s p q l a f)) (group_in (group_at s g)) =
+    All-contains (IsGroup (problem_of (held_of (length kinds) s p q l a f))) (map group_in (map (group_at s) q)) (group_in (group_at s g)) i.whole.well_formed.groups
+    (Contains-map group_in (map (group_at s) q) (group_at s g) (Contains-map (group_at s) q g c)) in
+    x.2
+
+-- the groups have no more literals than the problem
+pub groups_within : (kinds : List VarKind) (s : Slab (List ℕ)) (p : List ℕ) (q : List GroupKey) (l a f : List ℕ) (room n : ℕ) → IsCounted kinds s p q l a f room n → sum_by (group_length s) q ≤ n
+groups_within kinds s p q l a f room n i =
+    let old = sym (count_parts s p q l (length kinds) a f (guarded_all kinds s p q l a f room i.kept)) ∙ i.count in omega (arith, old)
+
+module _ (kinds : List VarKind) (s m t : Slab (List ℕ)) (p : List ℕ) (q : List GroupKey) (l a f : List ℕ) (room n : ℕ) (i : IsCounted kinds s p q l a f room n) (g : ℕ) (act : Contains a g)
+    (first : (k : ℕ) → IsOther g s q k → get m k ≡ get s k)
     (second : (k : ℕ) → ¬ (Contains l k × (names g (clause_at m k) ≡ true)) → get t k ≡ get m k) where
-  abbrev kept_pairs : List ℕ
-  kept_pairs = filter (keeps g s) q
+  abbrev kept_groups : List GroupKey
+  kept_groups = filter (spares g s) q
 
   abbrev kept_learnt' : List ℕ
   kept_learnt' = filter (keeps g m) l
 
-  same : (k : ℕ) → Contains (p ++ (kept_pairs ++ filter (keeps g s) l)) k → get t k ≡ get s k
-  same = left s m t p q l g i.kept.stored first second
+  abbrev left_held : Held
+  left_held = held_of (length kinds) s p kept_groups l a f
 
-  pub counted_without : (more j b c : ℕ) → length f + 1 + length (without g a) ≤ more → b ≡ sum_by (pair_length s) q → c ≡ sum_by (pair_length m) kept_pairs → j ≡ n - b + c
-      → IsCounted (set kinds (g - 1) kind.Freed) t p kept_pairs kept_learnt' (without g a) (f ++ g ∷ []) more j
-  counted_without more j b c rooms eb ec ej = record {
+  abbrev was_held : Held
+  was_held = held_of (length kinds) s p q l a f
+
+  pub counted_without : (more j gone : ℕ) → length f + 1 + length (without g a) ≤ more → gone + sum_by (group_length s) kept_groups ≡ sum_by (group_length s) q → j ≡ n - gone
+      → IsCounted (set kinds (g - 1) kind.Freed) t p kept_groups kept_learnt' (without g a) (f ++ g ∷ []) more j
+  counted_without more j gone rooms e ej = record {
     kept = kept_without kinds s m t p q l a f room i.kept g act first second more rooms;
     count =
-        let old = sym (count_parts s p q l (length kinds) a f) ∙ i.count in
-        let new = count_parts t p kept_pairs kept_learnt' (length (set kinds (g - 1) kind.Freed)) (without g a) (f ++ g ∷ []) in
-        let x = plain_size_same s t p (λ k o. same k (Contains-append_left p _ k o)) in
-        let y = pairs_size_same s t kept_pairs (λ k o. same k (Contains-append_right p _ k (Contains-append_left kept_pairs (filter (keeps g s) l) k o))) in
-        let z = pairs_size_same s m kept_pairs (left_first s m t p q l g i.kept.stored first second) in
-        omega (arith, old, new, x, y, z, eb, ec, ej);
+        let some = guarded_all kinds s p q l a f room i.kept in
+        let old = sym (count_parts s p q l (length kinds) a f some) ∙ i.count in
+        let new = count_parts s p kept_groups l (length kinds) a f (λ u c. some u (let x = Contains-filter (spares g s) q u c in x.0)) in
+        let here = ap size_of (without_held kinds s m t p q l a f room i.kept g act first second)
+        ∙ count_same left_held (without_guard_of g was_held) refl (sym (groups_left s m t p q l g i.kept.stored first second)) in
+        here ∙ omega (arith, old, new, e, ej);
   }
-
-  -- the pairs that stay have no more literals than there were
-  pub left_within : sum_by (pair_length m) kept_pairs ≤ sum_by (pair_length s) q
-  left_within =
-      let z = pairs_size_same s m kept_pairs (left_first s m t p q l g i.kept.stored first second) in
-      let w = sum_fewer (pair_length s) (keeps g s) q in
-      omega (arith, z, w)
-
--- the pairs have no more literals than the problem
-pub pairs_within : (kinds : List VarKind) (s : Slab (List ℕ)) (p q l a f : List ℕ) (room n : ℕ) → IsCounted kinds s p q l a f room n → sum_by (pair_length s) q ≤ n
-pairs_within kinds s p q l a f room n i = let old = sym (count_parts s p q l (length kinds) a f) ∙ i.count in omega (arith, old)

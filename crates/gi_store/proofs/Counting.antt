@@ -1,39 +1,43 @@
 -- How many literals a store's problem has.
-use Rattle.std.proofs.Common.{◌≡◌, ℕ, ◌+◌, ◌-◌, ◌≤◌, Bool, true, false, cond, Option, List, [], ◌∷◌, length, map, refl, ap, ◌∙◌, arith, length-take-le}
-use Rattle.std.specs.List.{Contains, filter, sum_by}
-use Rattle.std.specs.Option.{unwrap_or}
-use Rattle.std.proofs.lemmas.List.{map_push}
+use Rattle.std.proofs.Common.{◌≡◌, ℕ, ◌+◌, ◌-◌, ◌/◌, ◌<◌, List, [], ◌∷◌, length, map, take, refl, ap, ◌∙◌, arith, length-take-le, length-drop}
+use Rattle.std.specs.List.{Contains, sum_by}
+use Rattle.std.proofs.lemmas.List.{map_push, length-map}
 use Rattle.std.proofs.lemmas.List.Sums.{sum_by-cons, sum_by_push}
-use Rattle.slab.specs.Slab.{Slab, get}
+use Rattle.slab.specs.Slab.{Slab}
 use Rattle.slab.proofs.SlabLemmas.{Contains-cons}
-use Rattle.gi_lit.specs.Problem.{Pair, lit_count}
-use Rattle.gi_store.specs.Held.{Entry, PairEntry, Held, problem_of, with_plain, with_under}
-use Rattle.gi_store.specs.Stored.{clause_at, entry_at, pair_at, pair_length, held_of}
+use Rattle.gi_lit.specs.Problem.{as_given, lit_count}
+use Rattle.gi_store.specs.Held.{Entry, GroupEntry, Held, problem_of, with_plain, with_under}
+use Rattle.gi_store.specs.declared.group_key.GroupKey.{GroupKey}
+use Rattle.gi_store.specs.Stored.{clause_at, entry_at, guard_part, group_at, group_length, held_of}
 use Rattle.gi_store.proofs.Lists.{Contains-head}
-use Rattle.gi_store.proofs.Edits.{pair_in}
-use Rattle.gi_store.proofs.Views.{entries_same}
+use Rattle.gi_store.proofs.Edits.{group_in}
 
 abbrev lits_in : Entry → List ℕ
 lits_in e = e.lits
-
-abbrev pub pair_size : Pair → ℕ
-pair_size q = length q.clause
 
 -- the literals of the plain clauses
 abbrev pub plain_size : Slab (List ℕ) → List ℕ → ℕ
 plain_size s p = sum_by length (map lits_in (map (entry_at s) p))
 
-pairs_sum : (s : Slab (List ℕ)) (q : List ℕ) → sum_by pair_size (map pair_in (map (pair_at s) q)) ≡ sum_by (pair_length s) q
-pairs_sum s [] = refl
-pairs_sum s (k ∷ q) =
-    let a = sum_by-cons pair_size (pair_in (pair_at s k)) (map pair_in (map (pair_at s) q)) in
-    let b = sum_by-cons (pair_length s) k q in
-    let e : pair_size (pair_in (pair_at s k)) ≡ pair_length s k = length-take-le (length (clause_at s k) - 1) (clause_at s k) (omega arith) in
-    omega (arith, a, b, e, pairs_sum s q)
+-- each group has a guard
+abbrev pub HaveGuards : Slab (List ℕ) → List GroupKey → Type 0
+HaveGuards s q = (g : GroupKey) → Contains q g → 0 < length (group_at s g).guards
 
-pub count_parts : (s : Slab (List ℕ)) (p q l : List ℕ) (n : ℕ) (a f : List ℕ) → lit_count (problem_of (held_of n s p q l a f)) ≡ plain_size s p + sum_by (pair_length s) q
+-- a clause with its last literals taken for guards, one at least, has as many as given as it has literals less one
+as_stored : (c : List ℕ) (n : ℕ) → 0 < length (map (λ l. l / 2) (guard_part n c)) → length (take (length c - n) c) + (length (map (λ l. l / 2) (guard_part n c)) - 1) ≡ length c - 1
+as_stored c n some = omega (arith, some, length-map (guard_part n c) (λ l. l / 2), length-drop (length c - n) c, length-take-le (length c - n) c (omega arith))
+
+groups_sum : (s : Slab (List ℕ)) (q : List GroupKey) → HaveGuards s q → sum_by as_given (map group_in (map (group_at s) q)) ≡ sum_by (group_length s) q
+groups_sum s [] h = refl
+groups_sum s (g ∷ q) h =
+    let a = sum_by-cons as_given (group_in (group_at s g)) (map group_in (map (group_at s) q)) in
+    let b = sum_by-cons (group_length s) g q in
+    let e : as_given (group_in (group_at s g)) ≡ group_length s g = as_stored (clause_at s g.key) g.guards (h g (Contains-head g q)) in
+    omega (arith, a, b, e, groups_sum s q (λ u c. h u (Contains-cons g u q c)))
+
+pub count_parts : (s : Slab (List ℕ)) (p : List ℕ) (q : List GroupKey) (l : List ℕ) (n : ℕ) (a f : List ℕ) → HaveGuards s q → lit_count (problem_of (held_of n s p q l a f)) ≡ plain_size s p + sum_by (group_length s) q
 unfolding lit_count
-count_parts s p q l n a f = ap (λ x. plain_size s p + x) (pairs_sum s q)
+count_parts s p q l n a f h = ap (λ x. plain_size s p + x) (groups_sum s q h)
 
 pub count_plain : (k : ℕ) (c : List ℕ) (h : Held) → lit_count (problem_of (with_plain k c h)) ≡ lit_count (problem_of h) + length c
 unfolding lit_count
@@ -41,34 +45,13 @@ count_plain k c h =
     let a = ap (sum_by length) (map_push lits_in h.plain (record { key = k; lits = c })) ∙ sum_by_push length (map lits_in h.plain) c in
     omega (arith, a)
 
-pub count_under : (k g : ℕ) (c : List ℕ) (h : Held) → lit_count (problem_of (with_under k g c h)) ≡ lit_count (problem_of h) + length c
+pub count_under : (k : ℕ) (gs c : List ℕ) (h : Held) → lit_count (problem_of (with_under k gs c h)) ≡ lit_count (problem_of h) + (length c + (length gs - 1))
 unfolding lit_count
-count_under k g c h =
-    let a = ap (sum_by pair_size) (map_push pair_in h.pairs (record { key = k; guard = g; clause = c })) ∙ sum_by_push pair_size (map pair_in h.pairs) (record { guard = g; clause = c }) in
+count_under k gs c h =
+    let a = ap (sum_by as_given) (map_push group_in h.groups (record { key = k; guards = gs; clause = c })) ∙ sum_by_push as_given (map group_in h.groups) (record { guards = gs; clause = c }) in
     omega (arith, a)
 
 -- learnt clauses and guards don't count
-pub count_same : (h i : Held) → i.plain ≡ h.plain → i.pairs ≡ h.pairs → lit_count (problem_of i) ≡ lit_count (problem_of h)
+pub count_same : (h i : Held) → i.plain ≡ h.plain → i.groups ≡ h.groups → lit_count (problem_of i) ≡ lit_count (problem_of h)
 unfolding lit_count
-count_same h i a b = ap (λ (x : List Entry). sum_by length (map lits_in x) + sum_by pair_size (map pair_in i.pairs)) a ∙ ap (λ (x : List PairEntry). sum_by length (map lits_in h.plain) + sum_by pair_size (map pair_in x)) b
-
-sum_same : (f g : ℕ → ℕ) (xs : List ℕ) → ((x : ℕ) → Contains xs x → f x ≡ g x) → sum_by f xs ≡ sum_by g xs
-sum_same f g [] h = refl
-sum_same f g (x ∷ xs) h =
-    let a = sum_by-cons f x xs in
-    let b = sum_by-cons g x xs in
-    omega (arith, a, b, h x (Contains-head x xs), sum_same f g xs (λ y c. h y (Contains-cons x y xs c)))
-
-pub pairs_size_same : (s t : Slab (List ℕ)) (q : List ℕ) → ((k : ℕ) → Contains q k → get t k ≡ get s k) → sum_by (pair_length t) q ≡ sum_by (pair_length s) q
-pairs_size_same s t q h = sum_same (pair_length t) (pair_length s) q (λ k c. ap (λ (o : Option (List ℕ)). length (unwrap_or o []) - 1) (h k c))
-
-pub plain_size_same : (s t : Slab (List ℕ)) (p : List ℕ) → ((k : ℕ) → Contains p k → get t k ≡ get s k) → plain_size t p ≡ plain_size s p
-plain_size_same s t p h = ap (λ (x : List Entry). sum_by length (map lits_in x)) (entries_same s t p h)
-
-pub sum_fewer : (f : ℕ → ℕ) (p : ℕ → Bool) (xs : List ℕ) → sum_by f (filter p xs) ≤ sum_by f xs
-sum_fewer f p [] = omega arith
-sum_fewer f p (x ∷ xs) = go (p x) (sum_fewer f p xs)
-  where
-    go : (b : Bool) → sum_by f (filter p xs) ≤ sum_by f xs → sum_by f (cond b (x ∷ filter p xs) (filter p xs)) ≤ sum_by f (x ∷ xs)
-    go true h = let a = sum_by-cons f x xs in let b = sum_by-cons f x (filter p xs) in omega (arith, a, b, h)
-    go false h = let a = sum_by-cons f x xs in omega (arith, a, h)
+count_same h i a b = ap (λ (x : List Entry). sum_by length (map lits_in x) + sum_by as_given (map group_in i.groups)) a ∙ ap (λ (x : List GroupEntry). sum_by length (map lits_in h.plain) + sum_by as_given (map group_in x)) b

@@ -4,13 +4,14 @@ use Rattle.std.specs.List.{All, Contains}
 use Rattle.std.proofs.lemmas.Bool.{cases_lt, cases_eq, ne_eqb, not_from_false}
 use Rattle.std.proofs.lemmas.List.{map_push, get_or_append_left, get_or_push, drop-map, get_or-append_right, get_or-replicate}
 use Rattle.std.proofs.lemmas.List.Elements.{All-push, All-weaker, All-filter, All-drop, All-contains, Contains-append_left, Contains-append_right, Contains-push, Contains-push_cases}
-use Rattle.gi_lit.specs.Problem.{Problem, Pair, IsPlain, IsWellFormed, names, without, without_pairs, without_var, without_guard, guard_made}
+use Rattle.gi_lit.specs.Literals.{max_var}
+use Rattle.gi_lit.specs.Problem.{Problem, Group, has, IsPlain, IsGroup, IsWellFormed, names, without, without_groups, without_var, without_guard, guard_made}
 use Rattle.gi_lit.proofs.Vars.{var_facts, var_from}
 use Rattle.gi_lit.proofs.Growing.{grows_grown, IsWellFormed-grown, IsWellFormed-guard}
 use Rattle.gi_lit.proofs.Dropping.{IsWellFormed-dropped}
 use Rattle.gi_lit.proofs.Distinct.{filter-has, IsDistinct-apart}
 use Rattle.slab.proofs.SlabLemmas.{Contains-cons, Contains-cons_cases}
-use Rattle.gi_store.specs.Held.{Entry, PairEntry, Held, problem_of, known_of, IsWithin, with_plain, with_under, with_learnt, with_new_guard, without_guard_of, trimmed}
+use Rattle.gi_store.specs.Held.{Entry, GroupEntry, Held, problem_of, known_of, IsWithin, with_plain, with_under, with_learnt, with_new_guard, without_guard_of, trimmed}
 use Rattle.gi_store.specs.Whole.{IsWhole, IsKind, IsTable}
 use Rattle.gi_store.specs.declared.kind.VarKind.{VarKind}
 use Rattle.gi_store.specs.declared.kind.VarKind.TheVariants as kind
@@ -22,8 +23,8 @@ lits_of e = e.lits
 abbrev key_of : Entry → ℕ
 key_of e = e.key
 
-abbrev pub pair_in : PairEntry → Pair
-pair_in q = record { guard = q.guard; clause = q.clause }
+abbrev pub group_in : GroupEntry → Group
+group_in q = record { guards = q.guards; clause = q.clause }
 
 -- the kinds of the same variables and guards are the same
 pub kind_same : (h i : Held) (v : ℕ) (k : VarKind) → i.vars ≡ h.vars → i.active ≡ h.active → i.freed ≡ h.freed → IsKind h v k → IsKind i v k
@@ -41,8 +42,7 @@ module _ (h : Held) (w : IsWhole h) (key : ℕ) (c : List ℕ) where
   whole_plain p = record {
     well_formed = record {
       plain = rw (map_push lits_of h.plain (record { key = key; lits = c })) (All-push (IsPlain (problem_of h)) (map lits_of h.plain) c w.well_formed.plain p);
-      pairs = w.well_formed.pairs;
-      guards = w.well_formed.guards;
+      groups = w.well_formed.groups;
       distinct = w.well_formed.distinct;
       low = w.well_formed.low;
       high = w.well_formed.high;
@@ -51,12 +51,11 @@ module _ (h : Held) (w : IsWhole h) (key : ℕ) (c : List ℕ) where
     known = w.known;
   }
 
-  pub whole_under : (g : ℕ) → Contains h.active g → IsPlain (problem_of h) c → IsWhole (with_under key g c h)
-  whole_under g a p = record {
+  pub whole_under : (gs : List ℕ) → 0 < length gs → All (Contains h.active) gs → IsPlain (problem_of h) c → IsWhole (with_under key gs c h)
+  whole_under gs some a p = record {
     well_formed = record {
       plain = w.well_formed.plain;
-      pairs = rw (map_push pair_in h.pairs (record { key = key; guard = g; clause = c })) (All-push (λ (q : Pair). IsPlain (problem_of h) q.clause) (map pair_in h.pairs) (record { guard = g; clause = c }) w.well_formed.pairs p);
-      guards = rw (map_push pair_in h.pairs (record { key = key; guard = g; clause = c })) (All-push (λ (q : Pair). Contains h.active q.guard) (map pair_in h.pairs) (record { guard = g; clause = c }) w.well_formed.guards a);
+      groups = rw (map_push group_in h.groups (record { key = key; guards = gs; clause = c })) (All-push (IsGroup (problem_of h)) (map group_in h.groups) (record { guards = gs; clause = c }) w.well_formed.groups (p, a, some));
       distinct = w.well_formed.distinct;
       low = w.well_formed.low;
       high = w.well_formed.high;
@@ -79,7 +78,7 @@ pub known_more : (n m : ℕ) → n ≤ m → (cs : List (List ℕ)) → All (IsW
 known_more n m le cs = All-weaker (IsWithin n) (IsWithin m) (within_more n m le) cs
 
 -- more variables
-module _ (h : Held) (w : IsWhole h) (n : ℕ) (limit : n ≤ 1048576) where
+module _ (h : Held) (w : IsWhole h) (n : ℕ) (limit : n ≤ max_var) where
   pub whole_grown : IsWhole (record h { vars = max h.vars n })
   whole_grown = record { well_formed = IsWellFormed-grown n (problem_of h) w.well_formed; limit = omega (arith, w.limit); known = known_more h.vars (max h.vars n) (omega arith) (known_of h) w.known }
 
@@ -108,11 +107,11 @@ module _ (h : Held) (w : IsWhole h) (n : ℕ) (limit : n ≤ 1048576) where
 
 -- an active guard goes
 pub problem_without : (g : ℕ) (h : Held) → problem_of (without_guard_of g h) ≡ without_guard g (problem_of h)
-unfolding without_pairs
-problem_without g h = ap (λ (qs : List Pair). make qs) (sym (filter_of_map pair_in (λ (q : Pair). not (q.guard == g)) h.pairs))
+unfolding without_groups
+problem_without g h = ap (λ (qs : List Group). make qs) (sym (filter_of_map group_in (λ (q : Group). not (has q.guards g)) h.groups))
   where
-    make : List Pair → Problem
-    make qs = record { vars = h.vars; plain = map lits_of h.plain; pairs = qs; active = without g h.active; freed = g ∷ h.freed }
+    make : List Group → Problem
+    make qs = record { vars = h.vars; plain = map lits_of h.plain; groups = qs; active = without g h.active; freed = g ∷ h.freed }
 
 pub known_without : (g : ℕ) (h : Held) → known_of (without_guard_of g h) ≡ without_var g (known_of h)
 unfolding without_var
@@ -161,12 +160,12 @@ module _ (h : Held) (w : IsWhole h) where
   made fs = record {
     vars = (guard_made (problem_of h) fs).vars;
     plain = map lits_of h.plain;
-    pairs = map pair_in h.pairs;
+    groups = map group_in h.groups;
     active = (guard_made (problem_of h) fs).active;
     freed = (guard_made (problem_of h) fs).freed;
   }
 
-  pub whole_next : h.freed ≡ [] → h.vars < 1048576 → IsWhole (with_new_guard h)
+  pub whole_next : h.freed ≡ [] → h.vars < max_var → IsWhole (with_new_guard h)
   whole_next e lt = record {
     well_formed = subst (λ fs. IsWellFormed (made fs)) (sym e) (IsWellFormed-guard (problem_of h) [] e w.well_formed);
     limit = rw e (omega arith);

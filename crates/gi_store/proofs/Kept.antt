@@ -1,20 +1,22 @@
 -- All that a store keeps, after each edit.
-use Rattle.std.proofs.Common.{◌≡◌, ℕ, ◌+◌, ◌-◌, ◌*◌, ◌/◌, ◌<◌, ◌≤◌, true, Some, None, List, [], ◌∷◌, ◌++◌, length, take, drop, max, set, reverse, replicate, refl, sym, ap, ◌∙◌, subst, arith, length-append, length-set}
-use Rattle.std.specs.List.{Contains, filter}
+use Rattle.std.proofs.Common.{◌≡◌, ℕ, ◌+◌, ◌-◌, ◌/◌, ◌<◌, ◌≤◌, true, Some, None, List, [], ◌∷◌, ◌++◌, length, take, drop, max, set, reverse, replicate, refl, sym, ap, ◌∙◌, subst, arith, length-append, length-set}
+use Rattle.std.specs.List.{All, Contains, filter}
 use Rattle.std.proofs.lemmas.List.{length-replicate, reverse-append}
 use Rattle.slab.specs.Slab.{Slab, get, Updates}
-use Rattle.gi_lit.specs.Problem.{IsPlain, names, without}
+use Rattle.gi_lit.specs.Literals.{max_var}
+use Rattle.gi_lit.specs.Problem.{IsPlain, names, negatives, without}
 use Rattle.gi_store.specs.Held.{Held, problem_of, IsWithin, with_plain, with_under, with_learnt, with_new_guard, without_guard_of, trimmed}
+use Rattle.gi_store.specs.declared.group_key.GroupKey.{GroupKey}
 use Rattle.gi_store.specs.Stored.{clause_at, held_of, IsKept}
 use Rattle.gi_store.specs.Whole.{IsWhole, IsTable}
 use Rattle.gi_store.specs.declared.kind.VarKind.{VarKind}
 use Rattle.gi_store.specs.declared.kind.VarKind.TheVariants as kind
-use Rattle.gi_store.proofs.Forgetting.{keeps}
-use Rattle.gi_store.proofs.Views.{held_same, stored_same, stored_plain, stored_learnt, stored_pair, held_plain, held_learnt, held_pair}
+use Rattle.gi_store.proofs.Forgetting.{keeps, spares, IsOther}
+use Rattle.gi_store.proofs.Views.{held_same, stored_same, stored_plain, stored_learnt, stored_group, held_plain, held_learnt, held_group, placed}
 use Rattle.gi_store.proofs.Edits.{table_same, whole_plain, whole_under, whole_learnt, whole_grown, table_grown, whole_without, table_without, whole_next, table_next, whole_again, table_again, whole_trimmed}
 use Rattle.gi_store.proofs.Removing.{stored_without, held_without, stored_trimmed, held_trimmed}
 
-module _ (kinds : List VarKind) (s t : Slab (List ℕ)) (p q l a f : List ℕ) (room : ℕ) (i : IsKept kinds s p q l a f room) where
+module _ (kinds : List VarKind) (s t : Slab (List ℕ)) (p : List ℕ) (q : List GroupKey) (l a f : List ℕ) (room : ℕ) (i : IsKept kinds s p q l a f room) where
   abbrev was : Held
   was = held_of (length kinds) s p q l a f
 
@@ -35,11 +37,11 @@ module _ (kinds : List VarKind) (s t : Slab (List ℕ)) (p q l a f : List ℕ) (
       rooms = i.rooms;
     }
 
-    pub kept_pair : (g : ℕ) (d : List ℕ) → c ≡ d ++ (2 * g + 1) ∷ [] → Contains a g → IsPlain (problem_of was) d → IsKept kinds t p (q ++ k ∷ []) l a f room
-    kept_pair g d ends act plain = let e = held_pair s t k c vacant u p q l i.stored g d ends (length kinds) a f in record {
-      stored = stored_pair s t k c vacant u p q l i.stored g d ends;
-      whole = subst IsWhole (sym e) (whole_under was i.whole k d g act plain);
-      table = subst (λ h. IsTable h kinds) (sym e) (table_same was (with_under k g d was) kinds refl refl refl i.table);
+    pub kept_group : (gs d : List ℕ) → c ≡ d ++ negatives gs → 0 < length gs → All (Contains a) gs → IsPlain (problem_of was) d → IsKept kinds t p (q ++ placed k gs ∷ []) l a f room
+    kept_group gs d ends some act plain = let e = held_group s t k c vacant u p q l i.stored gs d ends (length kinds) a f in record {
+      stored = stored_group s t k c vacant u p q l i.stored gs d ends;
+      whole = subst IsWhole (sym e) (whole_under was i.whole k d gs some act plain);
+      table = subst (λ h. IsTable h kinds) (sym e) (table_same was (with_under k gs d was) kinds refl refl refl i.table);
       rooms = i.rooms;
     }
 
@@ -51,7 +53,7 @@ module _ (kinds : List VarKind) (s t : Slab (List ℕ)) (p q l a f : List ℕ) (
     rooms = i.rooms;
   }
 
-module _ (kinds : List VarKind) (s : Slab (List ℕ)) (p q l a f : List ℕ) (room : ℕ) (i : IsKept kinds s p q l a f room) where
+module _ (kinds : List VarKind) (s : Slab (List ℕ)) (p : List ℕ) (q : List GroupKey) (l a f : List ℕ) (room : ℕ) (i : IsKept kinds s p q l a f room) where
   abbrev before : Held
   before = held_of (length kinds) s p q l a f
 
@@ -61,7 +63,7 @@ module _ (kinds : List VarKind) (s : Slab (List ℕ)) (p q l a f : List ℕ) (ro
   long : (n : ℕ) → length (kinds ++ replicate (n - length kinds) kind.Problem) ≡ max (length kinds) n
   long n = omega (arith, length-append kinds (replicate (n - length kinds) kind.Problem), length-replicate (n - length kinds) kind.Problem)
 
-  pub kept_grown : (n : ℕ) → n ≤ 1048576 → IsKept (kinds ++ replicate (n - length kinds) kind.Problem) s p q l a f room
+  pub kept_grown : (n : ℕ) → n ≤ max_var → IsKept (kinds ++ replicate (n - length kinds) kind.Problem) s p q l a f room
   kept_grown n limit = record {
     stored = i.stored;
     whole = subst (λ m. IsWhole (held_of m s p q l a f)) (sym (long n)) (whole_grown before i.whole n limit);
@@ -77,7 +79,7 @@ module _ (kinds : List VarKind) (s : Slab (List ℕ)) (p q l a f : List ℕ) (ro
     next_is : held_of (length (kinds ++ kind.Active ∷ [])) s p q l (a ++ (length kinds + 1) ∷ []) [] ≡ with_new_guard before
     next_is = rw e (ap (λ m. held_of m s p q l (a ++ (length kinds + 1) ∷ []) []) (length-append kinds (kind.Active ∷ [])))
 
-    pub kept_next : (more : ℕ) → length kinds < 1048576 → 1 + length a ≤ more → IsKept (kinds ++ kind.Active ∷ []) s p q l (a ++ (length kinds + 1) ∷ []) [] more
+    pub kept_next : (more : ℕ) → length kinds < max_var → 1 + length a ≤ more → IsKept (kinds ++ kind.Active ∷ []) s p q l (a ++ (length kinds + 1) ∷ []) [] more
     kept_next more limit rooms = record {
       stored = i.stored;
       whole = subst IsWhole (sym next_is) (whole_next before i.whole (rw e refl) limit);
@@ -111,14 +113,14 @@ module _ (kinds : List VarKind) (s : Slab (List ℕ)) (p q l a f : List ℕ) (ro
     again_held = again_is
 
 -- a guard's clauses go
-module _ (kinds : List VarKind) (s m t : Slab (List ℕ)) (p q l a f : List ℕ) (room : ℕ) (i : IsKept kinds s p q l a f room) (g : ℕ) (act : Contains a g)
-    (first : (k : ℕ) → ¬ (Contains q k × (names g (clause_at s k) ≡ true)) → get m k ≡ get s k)
+module _ (kinds : List VarKind) (s m t : Slab (List ℕ)) (p : List ℕ) (q : List GroupKey) (l a f : List ℕ) (room : ℕ) (i : IsKept kinds s p q l a f room) (g : ℕ) (act : Contains a g)
+    (first : (k : ℕ) → IsOther g s q k → get m k ≡ get s k)
     (second : (k : ℕ) → ¬ (Contains l k × (names g (clause_at m k) ≡ true)) → get t k ≡ get m k) where
-  without_is : held_of (length (set kinds (g - 1) kind.Freed)) t p (filter (keeps g s) q) (filter (keeps g m) l) (without g a) (f ++ g ∷ []) ≡ without_guard_of g (held_of (length kinds) s p q l a f)
-  without_is = ap (λ n. held_of n t p (filter (keeps g s) q) (filter (keeps g m) l) (without g a) (f ++ g ∷ [])) (length-set kinds (g - 1) kind.Freed)
-      ∙ held_without s m t p q l g i.stored first second (length kinds) a f i.whole act
+  without_is : held_of (length (set kinds (g - 1) kind.Freed)) t p (filter (spares g s) q) (filter (keeps g m) l) (without g a) (f ++ g ∷ []) ≡ without_guard_of g (held_of (length kinds) s p q l a f)
+  without_is = ap (λ n. held_of n t p (filter (spares g s) q) (filter (keeps g m) l) (without g a) (f ++ g ∷ [])) (length-set kinds (g - 1) kind.Freed)
+      ∙ held_without s m t p q l g i.stored first second (length kinds) a f
 
-  pub kept_without : (more : ℕ) → length f + 1 + length (without g a) ≤ more → IsKept (set kinds (g - 1) kind.Freed) t p (filter (keeps g s) q) (filter (keeps g m) l) (without g a) (f ++ g ∷ []) more
+  pub kept_without : (more : ℕ) → length f + 1 + length (without g a) ≤ more → IsKept (set kinds (g - 1) kind.Freed) t p (filter (spares g s) q) (filter (keeps g m) l) (without g a) (f ++ g ∷ []) more
   kept_without more rooms = record {
     stored = stored_without s m t p q l g i.stored first second;
     whole = subst IsWhole (sym without_is) (whole_without (held_of (length kinds) s p q l a f) i.whole g act);
@@ -126,11 +128,11 @@ module _ (kinds : List VarKind) (s m t : Slab (List ℕ)) (p q l a f : List ℕ)
     rooms = omega (arith, length-append f (g ∷ []));
   }
 
-  pub without_held : held_of (length (set kinds (g - 1) kind.Freed)) t p (filter (keeps g s) q) (filter (keeps g m) l) (without g a) (f ++ g ∷ []) ≡ without_guard_of g (held_of (length kinds) s p q l a f)
+  pub without_held : held_of (length (set kinds (g - 1) kind.Freed)) t p (filter (spares g s) q) (filter (keeps g m) l) (without g a) (f ++ g ∷ []) ≡ without_guard_of g (held_of (length kinds) s p q l a f)
   without_held = without_is
 
 -- nothing has changed but room
-pub kept_same : (kinds : List VarKind) (s t : Slab (List ℕ)) (p q l a f : List ℕ) (room : ℕ) → IsKept kinds s p q l a f room → ((k : ℕ) → get t k ≡ get s k) → IsKept kinds t p q l a f room
+pub kept_same : (kinds : List VarKind) (s t : Slab (List ℕ)) (p : List ℕ) (q : List GroupKey) (l a f : List ℕ) (room : ℕ) → IsKept kinds s p q l a f room → ((k : ℕ) → get t k ≡ get s k) → IsKept kinds t p q l a f room
 kept_same kinds s t p q l a f room i same = let e = held_same s t p q l (λ k c. same k) (length kinds) a f in record {
   stored = stored_same s t p q l (λ k c. same k) i.stored;
   whole = subst IsWhole (sym e) i.whole;

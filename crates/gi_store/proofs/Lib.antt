@@ -6,7 +6,8 @@ pub mod Removing
 pub mod Sizes
 pub mod Kept
 pub mod Reading
-pub mod Resting
 pub mod Editing
+pub mod Entries
 pub mod Counting
 pub mod Counted
+pub mod Few

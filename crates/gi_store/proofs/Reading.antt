@@ -7,8 +7,9 @@ use Rattle.std.proofs.lemmas.List.Elements.{Contains-append_left, Contains-appen
 use Rattle.slab.specs.Slab.{Slab, get}
 use Rattle.gi_lit.specs.Lists.{IsDistinct}
 use Rattle.gi_store.specs.Held.{Entry, Held, full_entry, entries, keys_of, Holds, IsLive, at_place}
-use Rattle.gi_store.specs.Stored.{clause_at, entry_at, pair_at, held_of, IsStored}
-use Rattle.gi_store.proofs.Lists.{Contains-map}
+use Rattle.gi_store.specs.declared.group_key.GroupKey.{GroupKey}
+use Rattle.gi_store.specs.Stored.{clause_at, entry_at, keys_in, group_at, held_of, IsStored}
+use Rattle.gi_store.proofs.Lists.{Contains-map, Contains-unmap}
 use Rattle.gi_store.proofs.Views.{keys_are}
 use Rattle.gi_store.proofs.Removing.{one_clause}
 
@@ -45,33 +46,36 @@ known_read s [] i x lt e = absurd (omega (arith, lt))
 known_read s (y ∷ l) zero x lt e = ap (λ z. Some (clause_at s z)) e
 known_read s (y ∷ l) (suc i) x lt e = known_read s l i x (omega arith) e
 
-module _ (s : Slab (List ℕ)) (p q l : List ℕ) (n : ℕ) (a f : List ℕ) (h : IsStored s p q l) where
+module _ (s : Slab (List ℕ)) (p : List ℕ) (q : List GroupKey) (l : List ℕ) (n : ℕ) (a f : List ℕ) (h : IsStored s p q l) where
   abbrev held : Held
   held = held_of n s p q l a f
 
   pub distinct_keys : IsDistinct (keys_of held)
   distinct_keys = subst IsDistinct (sym (keys_are s p q l n a f)) h.keys.distinct
 
-  pub key_known : (k : ℕ) → IsLive held k → Contains (p ++ (q ++ l)) k
+  pub key_known : (k : ℕ) → IsLive held k → Contains (p ++ (keys_in q ++ l)) k
   key_known k c = subst (λ ks. Contains ks k) (keys_are s p q l n a f) c
 
-  pub key_live : (k : ℕ) → Contains (p ++ (q ++ l)) k → IsLive held k
+  pub key_live : (k : ℕ) → Contains (p ++ (keys_in q ++ l)) k → IsLive held k
   key_live k c = subst (λ ks. Contains ks k) (sym (keys_are s p q l n a f)) c
 
   pub has_slot : (k : ℕ) → IsLive held k → IsSome (get s k)
   has_slot k c = h.keys.live k (key_known k c)
 
   pub holds_slot : (k : ℕ) → IsLive held k → Holds held k (clause_at s k)
-  holds_slot k c = elim (Contains-append_cases p (q ++ l) k (key_known k c)) [
-    | inl x ↦ Contains-append_left held.plain (map full_entry held.pairs ++ held.learnt) (entry_at s k) (Contains-map (entry_at s) p k x)
-    | inr r ↦ Contains-append_right held.plain (map full_entry held.pairs ++ held.learnt) (entry_at s k) (elim (Contains-append_cases q l k r) [
-      | inl x ↦ Contains-append_left (map full_entry held.pairs) held.learnt (entry_at s k) (subst (Contains (map full_entry held.pairs)) (sym (h.ends k x)) (Contains-map full_entry held.pairs (pair_at s k) (Contains-map (pair_at s) q k x)))
-      | inr y ↦ Contains-append_right (map full_entry held.pairs) held.learnt (entry_at s k) (Contains-map (entry_at s) l k y)
+  holds_slot k c = elim (Contains-append_cases p (keys_in q ++ l) k (key_known k c)) [
+    | inl x ↦ Contains-append_left held.plain (map full_entry held.groups ++ held.learnt) (entry_at s k) (Contains-map (entry_at s) p k x)
+    | inr r ↦ Contains-append_right held.plain (map full_entry held.groups ++ held.learnt) (entry_at s k) (elim (Contains-append_cases (keys_in q) l k r) [
+      | inl x ↦ Contains-append_left (map full_entry held.groups) held.learnt (entry_at s k) (of_group (Contains-unmap (λ (g : GroupKey). g.key) q k x))
+      | inr y ↦ Contains-append_right (map full_entry held.groups) held.learnt (entry_at s k) (Contains-map (entry_at s) l k y)
     ])
   ]
+    where
+      of_group : (g : GroupKey) × Contains q g × (g.key ≡ k) → Contains (map full_entry held.groups) (entry_at s k)
+      of_group u = subst (λ j. Contains (map full_entry held.groups) (entry_at s j)) u.2 (subst (Contains (map full_entry held.groups)) (sym (h.ends u.0 u.1)) (Contains-map full_entry held.groups (group_at s u.0) (Contains-map (group_at s) q u.0 u.1)))
 
   pub holds_only : (k : ℕ) → IsLive held k → (c : List ℕ) → Holds held k c → clause_at s k ≡ c
   holds_only k live c x = one_clause (entries held) distinct_keys k (clause_at s k) c (holds_slot k live) x
 
-  pub key_read : (i : ℕ) (o : Option ℕ) → (i ≡ 0 → ⊥) → o ≡ slice_get (p ++ (q ++ l)) (i - 1) → o ≡ at_place (keys_of held) i
+  pub key_read : (i : ℕ) (o : Option ℕ) → (i ≡ 0 → ⊥) → o ≡ slice_get (p ++ (keys_in q ++ l)) (i - 1) → o ≡ at_place (keys_of held) i
   key_read i o some e = at_number (keys_of held) i o some (e ∙ ap (λ (ks : List ℕ). slice_get ks (i - 1)) (sym (keys_are s p q l n a f)))

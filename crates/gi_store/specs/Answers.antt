@@ -1,5 +1,6 @@
 -- What a new guard gives.
-use Rattle.std.specs.Prelude.{◌≡◌, []}
+use Rattle.std.specs.Prelude.{◌≡◌, ◌<◌, []}
+use Rattle.gi_lit.specs.Literals.{max_var}
 use Rattle.gi_lit.specs.Problem.{next_guard}
 use Rattle.gi_store.specs.Held.{Held, problem_of, with_new_guard}
 use Rattle.gi_store.specs.declared.new_guard.NewGuard.{NewGuard}
@@ -7,5 +8,5 @@ use Rattle.gi_store.specs.declared.new_guard.NewGuard.TheVariants.{Guard, Limit,
 
 abbrev pub GivesGuard : Held → NewGuard → Held → Type 0
 GivesGuard old (Guard g) new = (g ≡ next_guard (problem_of old)) × (new ≡ with_new_guard old)
-GivesGuard old Limit new = (old.freed ≡ []) × (old.vars ≡ 1048576) × (new ≡ old)
-GivesGuard old NoMemory new = new ≡ old
+GivesGuard old Limit new = (old.freed ≡ []) × (old.vars ≡ max_var) × (new ≡ old)
+GivesGuard old NoMemory new = (new ≡ old) × (old.freed ≡ [] → old.vars < max_var)

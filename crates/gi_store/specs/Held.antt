@@ -1,22 +1,23 @@
 -- What contracts see of a store: its variables and guards, and its clauses under their keys.
-use Rattle.std.specs.Prelude.{ℕ, ◌+◌, ◌-◌, ◌*◌, ◌/◌, ◌≤◌, ◌==◌, not, if◌then◌else◌, Option, None, List, [], ◌∷◌, ◌++◌, length, map, filter, drop, slice_get, All, Contains}
-use Rattle.gi_lit.specs.Problem.{Problem, names, without, with_guard}
+use Rattle.std.specs.Prelude.{ℕ, ◌-◌, ◌/◌, ◌==◌, not, if◌then◌else◌, Option, None, List, [], ◌∷◌, ◌++◌, length, map, filter, drop, slice_get, Contains}
+use Rattle.gi_lit.specs.Problem.{Problem, has, names, negatives, without, with_guard}
+pub use Rattle.gi_lit.specs.Literals.{IsWithin}
 
 -- a clause under its key
 pub record Entry : Type 0 where
   pub key : ℕ
   pub lits : List ℕ
 
--- a pair of a guard and a clause under its key
-pub record PairEntry : Type 0 where
+-- a group of guards and a clause under its key
+pub record GroupEntry : Type 0 where
   pub key : ℕ
-  pub guard : ℕ
+  pub guards : List ℕ
   pub clause : List ℕ
 
 pub record Held : Type 0 where
   pub vars : ℕ  -- the variables are 1 to vars
   pub plain : List Entry
-  pub pairs : List PairEntry
+  pub groups : List GroupEntry
   pub active : List ℕ  -- guards in use, the one made active last stands last
   pub freed : List ℕ  -- guards to be used again, the one freed last stands first
   pub learnt : List Entry  -- the oldest first
@@ -26,7 +27,7 @@ abbrev pub problem_of : Held → Problem
 problem_of h = record {
   vars = h.vars;
   plain = map (λ (e : Entry). e.lits) h.plain;
-  pairs = map (λ (q : PairEntry). record { guard = q.guard; clause = q.clause }) h.pairs;
+  groups = map (λ (q : GroupEntry). record { guards = q.guards; clause = q.clause }) h.groups;
   active = h.active;
   freed = h.freed;
 }
@@ -35,13 +36,13 @@ problem_of h = record {
 abbrev pub known_of : Held → List (List ℕ)
 known_of h = map (λ (e : Entry). e.lits) h.learnt
 
--- what is stored of a pair: the clause, and the guard's negative literal last
-abbrev pub full_entry : PairEntry → Entry
-full_entry q = record { key = q.key; lits = q.clause ++ (2 * q.guard + 1) ∷ [] }
+-- what is stored of a group: the clause, and the guards' negative literals behind it, in order
+abbrev pub full_entry : GroupEntry → Entry
+full_entry q = record { key = q.key; lits = q.clause ++ negatives q.guards }
 
--- all that is stored: the plain clauses, then the pairs, then the learnt clauses
+-- all that is stored: the plain clauses, then the groups, then the learnt clauses
 abbrev pub entries : Held → List Entry
-entries h = h.plain ++ (map full_entry h.pairs ++ h.learnt)
+entries h = h.plain ++ (map full_entry h.groups ++ h.learnt)
 
 -- the keys in use, in that order
 abbrev pub keys_of : Held → List ℕ
@@ -55,10 +56,6 @@ Holds h key clause = Contains (entries h) (record { key = key; lits = clause })
 abbrev pub IsLive : Held → ℕ → Type 0
 IsLive h key = Contains (keys_of h) key
 
--- each literal is of a variable from 1 to n
-abbrev pub IsWithin : ℕ → List ℕ → Type 0
-IsWithin n clause = All (λ l. (1 ≤ l / 2) × (l / 2 ≤ n)) clause
-
 -- no key that stays in use changes its clause
 pub record Keeps (old new : Held) : Type 0 where
   pub each : (key : ℕ) (clause : List ℕ) → Holds old key clause → IsLive new key → Holds new key clause
@@ -67,8 +64,8 @@ pub record Keeps (old new : Held) : Type 0 where
 abbrev pub with_plain : ℕ → List ℕ → Held → Held
 with_plain key c h = record h { plain = h.plain ++ record { key = key; lits = c } ∷ [] }
 
-abbrev pub with_under : ℕ → ℕ → List ℕ → Held → Held
-with_under key guard c h = record h { pairs = h.pairs ++ record { key = key; guard = guard; clause = c } ∷ [] }
+abbrev pub with_under : ℕ → List ℕ → List ℕ → Held → Held
+with_under key guards c h = record h { groups = h.groups ++ record { key = key; guards = guards; clause = c } ∷ [] }
 
 abbrev pub with_learnt : ℕ → List ℕ → Held → Held
 with_learnt key c h = record h { learnt = h.learnt ++ record { key = key; lits = c } ∷ [] }
@@ -77,10 +74,10 @@ with_learnt key c h = record h { learnt = h.learnt ++ record { key = key; lits =
 abbrev pub with_new_guard : Held → Held
 with_new_guard h = let p = with_guard (problem_of h) in record h { vars = p.vars; active = p.active; freed = p.freed }
 
--- an active guard freed: its pairs are gone, and the learnt clauses with its variable
+-- an active guard freed: the groups that name it are gone, and the learnt clauses with its variable
 abbrev pub without_guard_of : ℕ → Held → Held
 without_guard_of g h = record h {
-  pairs = filter (λ (q : PairEntry). not (q.guard == g)) h.pairs;
+  groups = filter (λ (q : GroupEntry). not (has q.guards g)) h.groups;
   active = without g h.active;
   freed = g ∷ h.freed;
   learnt = filter (λ (e : Entry). not (names g e.lits)) h.learnt;

@@ -1,10 +1,11 @@
 -- How the clauses lie in memory: in one slab, and their keys in three lists.
-use Rattle.std.specs.Prelude.{◌≡◌, ℕ, ◌+◌, ◌-◌, ◌/◌, ◌≤◌, List, [], ◌++◌, length, map, take, reverse, slice_index_or, Contains, IsSome, unwrap_or}
+use Rattle.std.specs.Prelude.{◌≡◌, ℕ, ◌+◌, ◌-◌, ◌/◌, ◌≤◌, Bool, List, [], ◌++◌, length, map, take, drop, reverse, Contains, IsSome, unwrap_or}
 use Rattle.slab.specs.Slab.{Slab, get}
 use Rattle.gi_lit.specs.Lists.{IsDistinct}
-use Rattle.gi_lit.specs.Problem.{lit_count}
-use Rattle.gi_store.specs.Held.{Entry, PairEntry, Held, full_entry, problem_of}
+use Rattle.gi_lit.specs.Problem.{lit_count, names}
+use Rattle.gi_store.specs.Held.{Entry, GroupEntry, Held, full_entry, problem_of}
 use Rattle.gi_store.specs.Whole.{IsWhole, IsTable}
+use Rattle.gi_store.specs.declared.group_key.GroupKey.{GroupKey}
 use Rattle.gi_store.specs.declared.kind.VarKind.{VarKind}
 
 -- the clause at a key
@@ -14,19 +15,30 @@ clause_at slab k = unwrap_or (get slab k) []
 abbrev pub entry_at : Slab (List ℕ) → ℕ → Entry
 entry_at slab k = record { key = k; lits = clause_at slab k }
 
--- the last literal is the guard's
-abbrev pub pair_of : ℕ → List ℕ → PairEntry
-pair_of k c = record { key = k; guard = slice_index_or c (length c - 1) 0 / 2; clause = take (length c - 1) c }
+-- the keys of groups
+abbrev pub keys_in : List GroupKey → List ℕ
+keys_in groups = map (λ (g : GroupKey). g.key) groups
 
-abbrev pub pair_at : Slab (List ℕ) → ℕ → PairEntry
-pair_at slab k = pair_of k (clause_at slab k)
+-- of the clause stored for a group the last literals are its guards'
+abbrev pub guard_part : ℕ → List ℕ → List ℕ
+guard_part n c = drop (length c - n) c
+
+abbrev pub group_of : GroupKey → List ℕ → GroupEntry
+group_of g c = record { key = g.key; guards = map (λ l. l / 2) (guard_part g.guards c); clause = take (length c - g.guards) c }
+
+abbrev pub group_at : Slab (List ℕ) → GroupKey → GroupEntry
+group_at slab g = group_of g (clause_at slab g.key)
+
+-- whether the group names the guard
+abbrev pub is_under : ℕ → Slab (List ℕ) → GroupKey → Bool
+is_under guard slab g = names guard (guard_part g.guards (clause_at slab g.key))
 
 -- the store with these lists; the guard freed last is the last of its list
-abbrev pub held_of : ℕ → Slab (List ℕ) → List ℕ → List ℕ → List ℕ → List ℕ → List ℕ → Held
-held_of vars slab plain pairs learnt active freed = record {
+abbrev pub held_of : ℕ → Slab (List ℕ) → List ℕ → List GroupKey → List ℕ → List ℕ → List ℕ → Held
+held_of vars slab plain groups learnt active freed = record {
   vars = vars;
   plain = map (entry_at slab) plain;
-  pairs = map (pair_at slab) pairs;
+  groups = map (group_at slab) groups;
   active = active;
   freed = reverse freed;
   learnt = map (entry_at slab) learnt;
@@ -37,23 +49,23 @@ pub record AreKeys (slab : Slab (List ℕ)) (keys : List ℕ) : Type 0 where
   pub live : (k : ℕ) → Contains keys k → IsSome (get slab k)
   pub distinct : IsDistinct keys
 
--- a pair's clause ends with the negative literal of its guard
-pub record IsStored (slab : Slab (List ℕ)) (plain pairs learnt : List ℕ) : Type 0 where
-  pub keys : AreKeys slab (plain ++ (pairs ++ learnt))
-  pub ends : (k : ℕ) → Contains pairs k → entry_at slab k ≡ full_entry (pair_at slab k)
+-- a group's clause ends with the negative literals of its guards
+pub record IsStored (slab : Slab (List ℕ)) (plain : List ℕ) (groups : List GroupKey) (learnt : List ℕ) : Type 0 where
+  pub keys : AreKeys slab (plain ++ (keys_in groups ++ learnt))
+  pub ends : (g : GroupKey) → Contains groups g → entry_at slab g.key ≡ full_entry (group_at slab g)
 
 -- all that a store keeps; each active guard has its room among the freed ones
-pub record IsKept (kinds : List VarKind) (slab : Slab (List ℕ)) (plain pairs learnt active freed : List ℕ) (room : ℕ) : Type 0 where
-  pub stored : IsStored slab plain pairs learnt
-  pub whole : IsWhole (held_of (length kinds) slab plain pairs learnt active freed)
-  pub table : IsTable (held_of (length kinds) slab plain pairs learnt active freed) kinds
+pub record IsKept (kinds : List VarKind) (slab : Slab (List ℕ)) (plain : List ℕ) (groups : List GroupKey) (learnt active freed : List ℕ) (room : ℕ) : Type 0 where
+  pub stored : IsStored slab plain groups learnt
+  pub whole : IsWhole (held_of (length kinds) slab plain groups learnt active freed)
+  pub table : IsTable (held_of (length kinds) slab plain groups learnt active freed) kinds
   pub rooms : length freed + length active ≤ room
 
--- how many literals a pair's clause has, its guard left out
-abbrev pub pair_length : Slab (List ℕ) → ℕ → ℕ
-pair_length slab k = length (clause_at slab k) - 1
+-- how many literals a group has as given
+abbrev pub group_length : Slab (List ℕ) → GroupKey → ℕ
+group_length slab g = length (clause_at slab g.key) - 1
 
 -- and with its count of literals
-pub record IsCounted (kinds : List VarKind) (slab : Slab (List ℕ)) (plain pairs learnt active freed : List ℕ) (room lits : ℕ) : Type 0 where
-  pub kept : IsKept kinds slab plain pairs learnt active freed room
-  pub count : lit_count (problem_of (held_of (length kinds) slab plain pairs learnt active freed)) ≡ lits
+pub record IsCounted (kinds : List VarKind) (slab : Slab (List ℕ)) (plain : List ℕ) (groups : List GroupKey) (learnt active freed : List ℕ) (room lits : ℕ) : Type 0 where
+  pub kept : IsKept kinds slab plain groups learnt active freed room
+  pub count : lit_count (problem_of (held_of (length kinds) slab plain groups learnt active freed)) ≡ lits

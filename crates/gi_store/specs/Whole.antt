@@ -1,5 +1,6 @@
 -- What is true of each store.
 use Rattle.std.specs.Prelude.{ℕ, ◌≤◌, ◌-◌, ◌<◌, List, slice_index_or, All, Contains}
+use Rattle.gi_lit.specs.Literals.{max_var}
 use Rattle.gi_lit.specs.Problem.{IsProblemVar, IsWellFormed}
 use Rattle.gi_store.specs.Held.{Held, problem_of, known_of, IsWithin}
 use Rattle.gi_store.specs.declared.kind.VarKind.{VarKind}
@@ -8,7 +9,7 @@ use Rattle.gi_store.specs.declared.kind.VarKind.TheVariants.{Problem, Active, Fr
 -- the problem is well formed and within the limit, and learnt clauses are of its variables
 pub record IsWhole (h : Held) : Type 0 where
   pub well_formed : IsWellFormed (problem_of h)
-  pub limit : h.vars ≤ 1048576
+  pub limit : h.vars ≤ max_var
   pub known : All (IsWithin h.vars) (known_of h)
 
 -- what a variable is

@@ -1,11 +1,12 @@
-ghost use Rattle.std.specs.Prelude.{◌≡◌, ◌<◌, ◌≤◌, ◌+◌, ◌-◌, ℕ, [], ◌∷◌, ◌++◌, length, replicate, Contains, OnOk, vec_len, vec_capacity};
-ghost use Rattle.gi_lit.specs.Problem.{without};
+ghost use Rattle.std.specs.Prelude.{◌≡◌, ◌<◌, ◌≤◌, ◌+◌, ◌-◌, ℕ, [], ◌∷◌, ◌++◌, length, replicate, Contains, IfOk, OnOk, vec_len, vec_capacity};
+ghost use Rattle.gi_lit.specs.Literals.{max_var};
+ghost use Rattle.gi_lit.specs.Problem.{without, negatives};
 ghost use Rattle.gi_store.specs.Taken.{Takes};
 ghost use Rattle.gi_store.specs.declared.kind.VarKind.TheVariants.{Problem};
 
 use crate::kind::VarKind;
-use gi_lit::{MAX_VAR, Var};
-use std::alloc::AllocError;
+use gi_lit::{Lit, Lits, Var};
+use std::alloc::{AllocError, Global};
 
 /// Takes a variable out of a list.
 pub(crate) fn drop_var(vars: &mut Vec<Var>, v: Var)
@@ -13,6 +14,19 @@ pub(crate) fn drop_var(vars: &mut Vec<Var>, v: Var)
 {
     let dropped = v.index();
     vars.retain(|w| w.index() != dropped);
+}
+
+/// The clause with the guards' negative literals behind it, in order.
+pub(crate) fn guarded(alloc: Global, guards: &[Var], c: &[Lit]) -> Result<Lits, AllocError>
+    ensures { IfOk result (λ d. d ≡ c.now ++ negatives guards.now) }
+{
+    let mut lits = Vec::new(alloc);
+    lits.reserve(c.len().saturating_add(guards.len()))?;
+    lits.extend_from_slice(c)?;
+    for g in guards {
+        lits.push(g.negative())?;
+    }
+    Ok(Lits::from_vec(lits))
 }
 
 /// Adds variables of the problem behind the others.
@@ -55,7 +69,7 @@ pub(crate) fn take_guard(
     requires kind_room { vec_len kinds.old + 1 ≤ vec_capacity kinds.old }
     requires active_room { vec_len active.old + 1 ≤ vec_capacity active.old }
     requires within { (v : ℕ) → Contains freed.old.items v → v ≤ length kinds.old.items }
-    requires limit { freed.old.items ≡ [] → length kinds.old.items < 1048576 }
+    requires limit { freed.old.items ≡ [] → length kinds.old.items < max_var }
     ensures takes { Takes kinds.old.items freed.old.items result kinds.new.items freed.new.items }
     ensures active { active.new.items ≡ active.old.items ++ result ∷ [] }
     ensures capacity { vec_capacity freed.new ≡ vec_capacity freed.old }

@@ -1,6 +1,7 @@
 //! The clauses of a problem and the learnt ones, each under a key, and the guards that come and go.
 #![tactic(auto)]
 
+mod group_key;
 mod guards;
 mod key;
 mod kind;
@@ -13,6 +14,6 @@ mod tests;
 
 pub use key::Key;
 pub use kind::VarKind;
-pub use laws::{edits_are_of_the_problem, problems_rest_on_guards};
+pub use laws::edits_are_of_the_problem;
 pub use new_guard::NewGuard;
 pub use store::Store;

@@ -1,21 +1,25 @@
-ghost use Rattle.std.specs.Prelude.{◌≡◌, ◌≤◌, ◌<◌, ◌+◌, ◌/◌, ℕ, List, [], ◌∷◌, ◌++◌, length, max, All, Contains, IfOk, OnOk, OnErr, IsTrue, ◌↔◌, option_copied};
+ghost use Rattle.std.specs.Prelude.{◌≡◌, ◌≢◌, ◌≤◌, ◌<◌, ◌+◌, ◌/◌, ℕ, List, [], ◌∷◌, ◌++◌, length, max, All, Contains, IfOk, OnOk, OnErr, IsTrue, ◌↔◌, option_copied};
+ghost use Rattle.gi_lit.specs.Literals.{max_var};
 ghost use Rattle.gi_lit.specs.Problem.{IsPlain, IsProblemVar, lit_count};
 ghost use Rattle.gi_store.specs.Held.{Held, Keeps, IsLive, Holds, IsWithin, problem_of, known_of, keys_of, entries, with_plain, with_under, with_learnt, without_guard_of, trimmed, at_place};
 ghost use Rattle.gi_store.specs.Whole.{IsWhole, IsKind};
 ghost use Rattle.gi_lit.specs.Lists.{IsDistinct};
 ghost use Rattle.gi_store.specs.Answers.{GivesGuard};
 
-use crate::guards::{add_kinds, drop_var, make_room, take_guard};
+use crate::group_key::GroupKey;
+use crate::guards::{add_kinds, drop_var, guarded, make_room, take_guard};
 use crate::key::Key;
 use crate::kind::VarKind;
 use crate::new_guard::NewGuard;
-use crate::slots::{count_pairs, forget_first, forget_naming, insert, more_lits};
+use crate::slots::{
+    forget_first, forget_groups, forget_naming, insert, insert_group, more_lits, room_of,
+};
 use gi_lit::{Lit, Lits, MAX_VAR, Var};
 use slab::Slab;
 use std::alloc::{AllocError, Global};
 use std::marker::Model;
 
-/// A problem with its guards, and the learnt clauses, each clause under a key. Contracts see the lists of plain clauses, of pairs of a guard and a
+/// A problem with its guards, and the learnt clauses, each clause under a key. Contracts see the lists of plain clauses, of groups of guards with a
 /// clause, and of learnt clauses, the oldest first, each with its key.
 #[derive(Drop)]
 pub struct Store {
@@ -25,7 +29,7 @@ pub struct Store {
     freed: Vec<Var>,
     slots: Slab<Lits>,
     plain: Vec<Key>,
-    pairs: Vec<Key>,
+    groups: Vec<GroupKey>,
     learnt: Vec<Key>,
     lits: u64,
 }
@@ -37,15 +41,15 @@ impl Model for Store {
 
     ghost Value = { Held };
 
-    ghost view = { λ s. held_of (length s.kinds.items) s.slots s.plain.items s.pairs.items s.learnt.items s.active.items s.freed.items };
+    ghost view = { λ s. held_of (length s.kinds.items) s.slots s.plain.items s.groups.items s.learnt.items s.active.items s.freed.items };
 
-    ghost invariant = { λ s. IsCounted s.kinds.items s.slots s.plain.items s.pairs.items s.learnt.items s.active.items s.freed.items (vec_capacity s.freed) s.lits };
+    ghost invariant = { λ s. IsCounted s.kinds.items s.slots s.plain.items s.groups.items s.learnt.items s.active.items s.freed.items (vec_capacity s.freed) s.lits };
 }
 
 impl Store {
     /// A store with no variable and no clause.
     pub fn new(alloc: Global) -> Store
-        ensures { result ≡ record { vars = 0; plain = []; pairs = []; active = []; freed = []; learnt = [] } }
+        ensures { result ≡ record { vars = 0; plain = []; groups = []; active = []; freed = []; learnt = [] } }
     {
         Store {
             alloc,
@@ -54,7 +58,7 @@ impl Store {
             freed: Vec::new(alloc),
             slots: Slab::new(alloc),
             plain: Vec::new(alloc),
-            pairs: Vec::new(alloc),
+            groups: Vec::new(alloc),
             learnt: Vec::new(alloc),
             lits: 0,
         }
@@ -62,7 +66,7 @@ impl Store {
 
     /// Makes the count of variables at least `n`; the new ones are variables of the problem. Unchanged after an error.
     pub fn grow(&mut self, n: u32) -> Result<(), AllocError>
-        requires { n ≤ 1048576 }
+        requires { n ≤ max_var }
         ensures ok { OnOk result (self.new ≡ record self.old { vars = max self.old.vars n }) }
         ensures keeps { Keeps self.old self.new }
         ensures err { OnErr result (self.new ≡ self.old) }
@@ -89,22 +93,21 @@ impl Store {
         Ok(key)
     }
 
-    /// Adds a clause of variables of the problem under an active guard, and picks its key. It is stored with the guard's negative literal last.
-    /// Unchanged after an error.
-    pub fn add_under(&mut self, guard: Var, c: &[Lit]) -> Result<Key, AllocError>
-        requires guard { Contains self.old.active guard }
+    /// Adds a clause of variables of the problem under active guards, one at least, and picks its key. It is stored with the guards' negative
+    /// literals behind it, in order; one that is named twice stands twice. Unchanged after an error.
+    pub fn add_under(&mut self, guards: &[Var], c: &[Lit]) -> Result<Key, AllocError>
+        requires some { 0 < length guards.now }
+        requires guards { All (Contains self.old.active) guards.now }
         requires plain { IsPlain (problem_of self.old) c.now }
-        ensures ok { IfOk result (λ key. self.new ≡ with_under key guard c.now self.old) }
+        ensures ok { IfOk result (λ key. self.new ≡ with_under key guards.now c.now self.old) }
         ensures fresh { IfOk result (λ key. ¬ IsLive self.old key) }
         ensures live { IfOk result (λ key. IsLive self.new key) }
         ensures keeps { Keeps self.old self.new }
         ensures err { OnErr result (self.new ≡ self.old) }
     {
-        let mut lits = Vec::new(self.alloc);
-        lits.extend_from_slice(c)?;
-        lits.push(guard.negative())?;
-        let more = more_lits(self.lits, c.len())?;
-        let key = insert(&mut self.slots, &mut self.pairs, Lits::from_vec(lits))?;
+        let clause = guarded(self.alloc, guards, c)?;
+        let more = more_lits(self.lits, clause.len() - 1)?;
+        let key = insert_group(&mut self.slots, &mut self.groups, clause, guards.len())?;
         self.lits = more;
         Ok(key)
     }
@@ -142,17 +145,14 @@ impl Store {
         }
     }
 
-    /// Frees an active guard: its pairs go, each learnt clause with its variable goes, all else stays in order. Takes no memory, and time linear in
-    /// what is stored.
+    /// Frees an active guard: the groups that name it go, each learnt clause with its variable goes, all else stays in order. Takes no memory, and
+    /// time linear in the guards of groups and in what was learnt.
     pub fn remove_guard(&mut self, guard: Var)
         requires { Contains self.old.active guard }
         ensures after { self.new ≡ without_guard_of guard self.old }
         ensures keeps { Keeps self.old self.new }
     {
-        let before = count_pairs(&self.slots, self.pairs.as_slice());
-        forget_naming(&mut self.slots, &mut self.pairs, guard);
-        let after = count_pairs(&self.slots, self.pairs.as_slice());
-        self.lits = self.lits - before + after;
+        self.lits -= forget_groups(&mut self.slots, &mut self.groups, guard);
         forget_naming(&mut self.slots, &mut self.learnt, guard);
         drop_var(&mut self.active, guard);
         self.kinds[(guard.index() - 1) as usize] = VarKind::Freed;
@@ -193,6 +193,18 @@ impl Store {
         matches!(self.kind(v), VarKind::Active)
     }
 
+    /// Whether each of the variables is an active guard.
+    pub fn are_active(&self, guards: &[Var]) -> bool
+        ensures { IsTrue result ↔ All (Contains self.now.active) guards.now }
+    {
+        for g in guards {
+            if !self.is_active(*g) {
+                return false;
+            }
+        }
+        true
+    }
+
     /// Whether each literal is of a variable of the problem.
     pub fn is_plain(&self, c: &[Lit]) -> bool
         ensures { IsTrue result ↔ IsPlain (problem_of self.now) c.now }
@@ -227,14 +239,31 @@ impl Store {
         self.kinds.len() as u32
     }
 
-    /// How many plain clauses and pairs there are.
-    pub fn problem(&self) -> u64
-        ensures { result ≡ length self.now.plain + length self.now.pairs }
+    /// Whether a guard was freed and not given again. In constant time.
+    pub fn has_freed(&self) -> bool
+        ensures { IsTrue result ↔ (self.now.freed ≢ []) }
     {
-        self.plain.len() as u64 + self.pairs.len() as u64
+        !self.freed.is_empty()
     }
 
-    /// How many literals the plain clauses and the pairs have as given, so the guards' left out. In constant time.
+    /// Tells what is true of every store, and does nothing.
+    pub fn is_whole(&self)
+        ensures whole { IsWhole self.now }
+        ensures keys { IsDistinct (keys_of self.now) }
+        ensures few { length self.now.plain + length self.now.groups + length self.now.learnt < 18446744073709551616 }
+    {
+        let _ = room_of(&self.slots);
+    }
+
+    /// How many plain clauses and groups there are.
+    pub fn problem(&self) -> u64
+        ensures { result ≡ length self.now.plain + length self.now.groups }
+    {
+        self.plain.len() as u64 + self.groups.len() as u64
+    }
+
+    /// How many literals the plain clauses and the groups have as given: those of the clauses, and one for each guard of a group after the first. In
+    /// constant time.
     pub fn lits(&self) -> u64
         ensures { result ≡ lit_count (problem_of self.now) }
     {
@@ -262,7 +291,7 @@ impl Store {
         Some(self.clause(self.learnt[place]))
     }
 
-    /// The key of the clause at a place, from 1, of the plain clauses, then the pairs, then the learnt clauses. None exactly where none stands there.
+    /// The key of the clause at a place, from 1, of the plain clauses, then the groups, then the learnt clauses. None exactly where none stands there.
     /// In constant time.
     pub fn key_at(&self, i: u64) -> Option<Key>
         ensures { result ≡ at_place (keys_of self.now) i }
@@ -275,10 +304,10 @@ impl Store {
             return Some(self.plain[place]);
         }
         let place = place - self.plain.len();
-        if place < self.pairs.len() {
-            return Some(self.pairs[place]);
+        if place < self.groups.len() {
+            return Some(self.groups[place].key);
         }
-        let place = place - self.pairs.len();
+        let place = place - self.groups.len();
         if place < self.learnt.len() {
             return Some(self.learnt[place]);
         }

@@ -13,7 +13,7 @@ pub invariant_of-self-2 : goal.invariant_of-self-2
 invariant_of-self-2 c =
     let e : c.from_vec-clause.result ≡ c.args.c.now = c.from_vec-clause.ensures ∙ c.in_ok-from_slice.ensures.items in
     let long = ap length e in
-    rw c.in_ok-key.ensures.keys (counted_plain c.self.inside.kinds.items c.self.inside.slots c.insert.new.slots _ _ _ _ _ _ _ c.self.invariant c.in_ok-key.key c.from_vec-clause.result c.in_ok-key.ensures.vacant c.in_ok-key.ensures.updates (subst (λ (h : Held). IsPlain (problem_of h) c.from_vec-clause.result) (sym c.self.view_is) (subst (λ xs. IsPlain (problem_of c.args.self.now) xs) (sym e) c.requires)) _ (omega (arith, c.in_ok-more.ensures, long)))
+    rw c.in_ok-key.ensures.keys (counted_plain c.self.inside.kinds.items c.self.inside.slots c.insert.new.slots _ _ _ _ _ _ _ c.self.invariant c.in_ok-key.key c.from_vec-clause.result c.in_ok-key.ensures.vacant c.in_ok-key.ensures.updates (subst (λ (h : Held). IsPlain (problem_of h) c.from_vec-clause.result) (sym c.self.view_is) (subst (λ xs. IsPlain (problem_of c.args.self.now) xs) (sym e) c.requires)) _ (omega (arith, c.in_ok-more.ensures.ok, long)))
 
 pub returns-clause-ok : goal.returns-clause-ok
 returns-clause-ok c =

@@ -22,7 +22,7 @@ returns-clause-holds c =
     let l = subst (λ (h : Held). IsLive h c.args.key) (sym c.self.view_is) c.requires in
     let n : get c.self.inside.slots c.args.key ≡ Some c.as_slice.result.now = ap (get c.self.inside.slots) (sym c.slot.ensures) ∙ sym c.get.ensures ∙ ap option_copied c.in-Some.is ∙ ap Some (sym c.as_slice.ensures) in
     let e : clause_at c.self.inside.slots c.args.key ≡ c.as_slice.result.now = ap (λ (o : Option (List ℕ)). unwrap_or o []) n in
-    subst (λ (h : Held). Holds h c.args.key c.as_slice.result.now) c.self.view_is (holds_as (held_of (length c.self.inside.kinds.items) c.self.inside.slots c.self.inside.plain.items c.self.inside.pairs.items c.self.inside.learnt.items c.self.inside.active.items c.self.inside.freed.items) c.args.key _ _ e (holds_slot c.self.inside.slots _ _ _ (length c.self.inside.kinds.items) c.self.inside.active.items c.self.inside.freed.items c.self.invariant.kept.stored c.args.key l))
+    subst (λ (h : Held). Holds h c.args.key c.as_slice.result.now) c.self.view_is (holds_as (held_of (length c.self.inside.kinds.items) c.self.inside.slots c.self.inside.plain.items c.self.inside.groups.items c.self.inside.learnt.items c.self.inside.active.items c.self.inside.freed.items) c.args.key _ _ e (holds_slot c.self.inside.slots _ _ _ (length c.self.inside.kinds.items) c.self.inside.active.items c.self.inside.freed.items c.self.invariant.kept.stored c.args.key l))
 
 pub returns-clause-only : goal.returns-clause-only
 returns-clause-only c = λ d x.

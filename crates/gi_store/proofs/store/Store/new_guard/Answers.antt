@@ -1,6 +1,7 @@
 use Rattle.std.proofs.Common.{◌≡◌, ◌<◌, ◌≤◌, ◌∷◌, [], length, arith, sym, ap, ◌∙◌, rules, length-append}
 use Rattle.std.specs.List.{Contains}
 use Rattle.std.proofs.lemmas.List.Elements.{All-contains, Contains-append_left}
+use Rattle.gi_lit.specs.Literals.{max_var}
 use Rattle.gi_store.specs.Taken.Takes.{next, again}
 use Rattle.gi_store.proofs.Counted.{counted_next, counted_again}
 use Rattle.gi_store.proofs.Lists.{Contains-reverse}
@@ -16,7 +17,7 @@ pub invariant_of-self : goal.invariant_of-self
 invariant_of-self c = elim c.take_guard.ensures.takes [
   | next a b g k ↦
       let none : c.self.inside.freed.items ≡ [] = sym c.in-Ok.ensures.freed ∙ a in
-      let limit : length c.self.inside.kinds.items < 1048576 = elim c.else-is_empty.branch [
+      let limit : length c.self.inside.kinds.items < max_var = elim c.else-is_empty.branch [
         | else-is_empty-via-then-is_empty+else-len w ↦ omega (arith, w.len.ensures, w.if-len.false, c.self.inside.kinds.ok.0)
         | else-is_empty-via-else-is_empty w ↦ absurd (let z = ap length none in let y = w.if-is_empty.false in search rules)
       ] in
