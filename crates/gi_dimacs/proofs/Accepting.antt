@@ -1,5 +1,5 @@
 -- What stands in the relation is read.
-use Rattle.std.proofs.Common.{◌≡◌, ◌≢◌, ℕ, zero, suc, ◌+◌, ◌*◌, ◌-◌, ◌/◌, ◌%◌, ◌<◌, ◌≤◌, max, nat_lt, nat_le, List, [], ◌∷◌, ◌++◌, length, Bool, true, false, ◌&&◌, ◌||◌, cond, ◌⊎◌, inl, inr, Option, Some, None, option_map, Result, Ok, Err, refl, ap, sym, ◌∙◌, append_assoc, length-append, add-zero, arith, ℤ, pos, negsuc, subst, map}
+use Rattle.std.proofs.Common.{◌≡◌, ◌≢◌, ℕ, zero, suc, ◌+◌, ◌/◌, ◌%◌, ◌<◌, ◌≤◌, max, nat_lt, nat_le, List, [], ◌∷◌, ◌++◌, length, Bool, true, false, ◌&&◌, ◌||◌, cond, ◌⊎◌, inl, inr, Option, Some, None, option_map, Result, Ok, Err, refl, ap, sym, ◌∙◌, append_assoc, length-append, add-zero, arith, ℤ, pos, negsuc, subst, map}
 use Rattle.std.specs.Prelude.{◌==◌}
 use Rattle.std.specs.List.{AllByRecursion}
 use Rattle.std.specs.Str.{bytes_eq, all_ascii_digits}
@@ -7,11 +7,10 @@ use Rattle.std.specs.Char.{is_ascii_digit}
 use Rattle.std.proofs.lemmas.Bool.Decides.{eqb_tells, nat_tests}
 use Rattle.std.proofs.lemmas.Bool.{le-ltb, ltb-false}
 use Rattle.std.proofs.lemmas.List.{append-nil}
-use Rattle.gi_lit.specs.Literals.{literal_of}
+use Rattle.gi_lit.specs.Literals.{literal_of, max_var}
 use Rattle.gi_text.specs.Numbers.{number_of, size_of, magnitude, negated, read_on}
 use Rattle.gi_dimacs.specs.declared.fault.CnfCode.{CnfCode}
-use Rattle.gi_dimacs.specs.declared.fault.CnfCode.TheVariants.{Header, Limit, Word, Unterminated}
-use Rattle.gi_dimacs.specs.declared.fault.CnfFault.{CnfFault}
+use Rattle.gi_dimacs.specs.declared.fault.CnfCode.TheVariants.{Header, Limit, Unterminated}
 use Rattle.gi_dimacs.specs.declared.items.Item.{Item}
 use Rattle.gi_dimacs.specs.declared.items.Item.TheVariants.{Clause, Ask}
 use Rattle.gi_dimacs.specs.declared.content.Format.{Format}
@@ -19,12 +18,12 @@ use Rattle.gi_dimacs.specs.declared.content.Format.TheVariants as formats
 use Rattle.gi_dimacs.specs.declared.content.Content.{Content}
 use Rattle.gi_dimacs.specs.declared.content.Content.TheVariants.{Clauses, Items}
 use Rattle.gi_dimacs.specs.declared.words.Taken.{Taken}
-use Rattle.gi_dimacs.specs.Lines.{lines_of}
 use Rattle.gi_dimacs.specs.Content.{File, nothing, format_of, with_item, items_of, clauses_in, literals_in, greatest, greatest_of}
-use Rattle.gi_dimacs.specs.Files.{begin, closed, asked, with_literal, with_assumption, add_number, within_variables, begins_number, number_in, then_number, add_word, add_words, then_words, ask_ends, ask_number, ask_words, is_end, is_ask, Move, Goes, Ends, Stops, moves, ask_line, body_words, body_line, whole, after_move, read_body, begin_body, head_words, header_words, check_counts, count_at, read_lines, read_file}
-use Rattle.gi_dimacs.specs.Relation.{line_words, begins_end, begins_ask, Token, Number, Asks, to_number, list_tokens, AreNumbers, SaysAsk, LineSays, LinesSay, tokens_of, IsProper, IsFile}
+use Rattle.gi_dimacs.specs.Files.{begin, closed, asked, with_literal, with_assumption, begins_number, number_in, add_word, add_words, then_words, ask_number, ask_words, is_end, is_ask, Goes, Ends, Stops, moves, ask_line, body_words, body_line, whole, after_move, read_body, begin_body, head_words, header_words, check_counts, count_at, read_lines, read_file}
+use Rattle.gi_dimacs.specs.Relation.{line_words, begins_end, Token, Number, Asks, to_number, list_tokens, AreNumbers, LineSays, LinesSay, tokens_of, IsProper, IsFile}
 use Rattle.gi_dimacs.proofs.WholeTexts.{format_of-nothing}
 use Rattle.gi_dimacs.proofs.Relating.{Proper, with_ask, line_is, head_line_is, format-item}
+use Rattle.gi_dimacs.specs.Limits.{most_assumptions}
 
 -- words that are numbers
 digits_begin : (b : ℕ) (bs : List ℕ) (z : ℤ) → option_map pos (magnitude (b ∷ bs)) ≡ Some z → is_ascii_digit b ≡ true
@@ -42,9 +41,9 @@ begins (b ∷ bs) z e = by_test (b == 45) e where
   by_test true e = refl
   by_test false e = digits_begin b bs z e
 
-number_in-is : (w : List ℕ) (z : ℤ) → number_of w ≡ Some z → size_of z ≤ 1048576 → number_in w ≡ Ok z
+number_in-is : (w : List ℕ) (z : ℤ) → number_of w ≡ Some z → size_of z ≤ max_var → number_in w ≡ Ok z
 unfolding number_in
-number_in-is w z e small = let fits : nat_lt 1048576 (size_of z) ≡ false = le-ltb 1048576 (size_of z) small in rw (begins w z e, e) (rw fits refl)
+number_in-is w z e small = let fits : nat_lt max_var (size_of z) ≡ false = le-ltb max_var (size_of z) small in rw (begins w z e, e) (rw fits refl)
 
 -- a literal's number
 pub record IsLit (l : ℕ) (z : ℤ) : Type 0 where
@@ -85,7 +84,7 @@ adds-append t (x ∷ us) vs = adds-append (add_token t x) us vs
 
 -- within the limits
 pub record Fits (t : Taken) : Type 0 where
-  pub small : t.vars ≤ 1048576
+  pub small : t.vars ≤ max_var
   pub clauses : t.ended ≤ 4194304
   pub literals : t.literals ≤ 67108864
 
@@ -124,10 +123,10 @@ words_step t (w ∷ ws) (Number z ∷ us) h fits =
     ap (λ r. then_words r (λ (u : Taken). add_words u ws)) (word_step t w z h.0 (fits_start us (add_token t (Number z)) fits)) ∙ words_step (add_token t (Number z)) ws us h.1 fits
 
 -- an ask's list
-ask_goes : (t : Taken) (z : ℤ) (ws : List (List ℕ)) (next : Taken → Result Taken CnfCode) → z ≢ pos 0 → length t.begun < 1048576 → ask_number t (Ok z) ws next ≡ next (with_assumption t z)
+ask_goes : (t : Taken) (z : ℤ) (ws : List (List ℕ)) (next : Taken → Result Taken CnfCode) → z ≢ pos 0 → length t.begun < most_assumptions → ask_number t (Ok z) ws next ≡ next (with_assumption t z)
 ask_goes t (pos zero) ws next some room = absurd (some refl)
-ask_goes t (pos (suc n)) ws next some room = let free = below 1048576 (length t.begun) room in rw free refl
-ask_goes t (negsuc n) ws next some room = let free = below 1048576 (length t.begun) room in rw free refl
+ask_goes t (pos (suc n)) ws next some room = let free = below most_assumptions (length t.begun) room in rw free refl
+ask_goes t (negsuc n) ws next some room = let free = below most_assumptions (length t.begun) room in rw free refl
 
 ask_none : (t : Taken) → asked t ≡ with_ask t []
 ask_none t = let same : max t.vars 0 ≡ t.vars = omega arith in rw (append-nil t.begun, same) refl
@@ -138,7 +137,7 @@ ask_more t l c z is =
     let greater : max (max t.vars (size_of z)) (greatest c) ≡ max t.vars (max (l / 2) (greatest c)) = omega (arith, is.size) in
     rw (regroup, greater) refl
 
-ask_step : (t : Taken) (ws : List (List ℕ)) (c : List ℕ) → AreNumbers ws (list_tokens c) → AllByRecursion Proper c → greatest c ≤ 1048576 → length t.begun + length c ≤ 1048576 → ask_words t ws ≡ Ok (with_ask t c)
+ask_step : (t : Taken) (ws : List (List ℕ)) (c : List ℕ) → AreNumbers ws (list_tokens c) → AllByRecursion Proper c → greatest c ≤ max_var → length t.begun + length c ≤ most_assumptions → ask_words t ws ≡ Ok (with_ask t c)
 unfolding ask_words
 ask_step t [] [] h proper small len = absurd h
 ask_step t [] (l ∷ c) h proper small len = absurd h
@@ -146,7 +145,7 @@ ask_step t (w ∷ x ∷ ws) [] h proper small len = absurd h.1
 ask_step t (w ∷ []) [] h proper small len = rw (number_in-is w (pos 0) h.0 (omega arith)) (ap Ok (ask_none t))
 ask_step t (w ∷ ws) (l ∷ c) h proper small len =
     let is = lit_is l proper.0 in
-    let fits : size_of (to_number l) ≤ 1048576 = omega (arith, is.size) in
+    let fits : size_of (to_number l) ≤ max_var = omega (arith, is.size) in
     ap (λ r. ask_number t r ws (λ (u : Taken). ask_words u ws)) (number_in-is w (to_number l) h.0 fits)
     ∙ ask_goes t (to_number l) ws (λ (u : Taken). ask_words u ws) is.some (omega arith)
     ∙ ask_step (with_assumption t (to_number l)) ws c h.1 proper.1 (omega arith) (omega (arith, length-append t.begun (literal_of (to_number l) ∷ [])))
@@ -206,7 +205,7 @@ all_adds t (Ask c ∷ is) none proper = all_adds (add_token t (Asks c)) is refl 
 abbrev pub Valid : Taken → List Token → Type 0
 Valid t [] = Unit {0}
 Valid t (Number z ∷ us) = Valid (add_token t (Number z)) us
-Valid t (Asks c ∷ us) = (t.begun ≡ []) × AllByRecursion Proper c × (length c ≤ 1048576) × Valid (add_token t (Asks c)) us
+Valid t (Asks c ∷ us) = (t.begun ≡ []) × AllByRecursion Proper c × (length c ≤ most_assumptions) × Valid (add_token t (Asks c)) us
 
 valid_parts : (t : Taken) (us vs : List Token) → Valid t (us ++ vs) → Valid t us × Valid (add_tokens t us) vs
 valid_parts t [] vs h = (tt, h)
@@ -304,23 +303,23 @@ head_go f k (l ∷ front) head rest d silent header =
     (next.0, head_line_is f k l (front ++ head ∷ rest) ∙ ap (λ ws. head_words f ws k (read_lines f (k + 1) (front ++ head ∷ rest)) (λ t. read_body (k + 1) t (front ++ head ∷ rest))) silent.0 ∙ next.1)
 
 -- a header's variables are within the limit
-cnf_small : (ws : List (List ℕ)) (d : ℕ) → header_words formats.Cnf ws ≡ Ok d → d ≤ 1048576
+cnf_small : (ws : List (List ℕ)) (d : ℕ) → header_words formats.Cnf ws ≡ Ok d → d ≤ max_var
 cnf_small [] d e = absurd cc
 cnf_small (p ∷ []) d e = absurd cc
 cnf_small (p ∷ cnf ∷ []) d e = absurd cc
 cnf_small (p ∷ cnf ∷ v ∷ []) d e = absurd cc
 cnf_small (p ∷ cnf ∷ v ∷ c ∷ x ∷ ws) d e = absurd cc
 cnf_small (p ∷ cnf ∷ v ∷ c ∷ []) d e = by_words (bytes_eq p (112 ∷ []) && bytes_eq cnf (99 ∷ 110 ∷ 102 ∷ [])) (count_at v) (count_at c) e where
-  by_size : (n m : ℕ) (a b : Bool) → nat_lt 1048576 n ≡ a → cond (a || b) (Err Limit) (Ok n) ≡ Ok d → d ≤ 1048576
+  by_size : (n m : ℕ) (a b : Bool) → nat_lt max_var n ≡ a → cond (a || b) (Err Limit) (Ok n) ≡ Ok d → d ≤ max_var
   by_size n m true b is e = absurd cc
   by_size n m false true is e = absurd cc
-  by_size n m false false is e = let small = ltb-false 1048576 n is in let same : n ≡ d = cc in omega arith
+  by_size n m false false is e = let small = ltb-false max_var n is in let same : n ≡ d = cc in omega arith
 
-  by_words : (b : Bool) (v c : Option ℕ) → cond b (check_counts v c) (Err Header) ≡ Ok d → d ≤ 1048576
+  by_words : (b : Bool) (v c : Option ℕ) → cond b (check_counts v c) (Err Header) ≡ Ok d → d ≤ max_var
   by_words false v c e = absurd cc
   by_words true None c e = absurd cc
   by_words true (Some n) None e = absurd cc
-  by_words true (Some n) (Some m) e = by_size n m (nat_lt 1048576 n) (nat_lt 4294967295 m) refl e
+  by_words true (Some n) (Some m) e = by_size n m (nat_lt max_var n) (nat_lt 4294967295 m) refl e
 
 pub icnf_declares : (ws : List (List ℕ)) (d : ℕ) → header_words formats.Icnf ws ≡ Ok d → d ≡ 0
 icnf_declares [] d e = absurd cc
@@ -331,7 +330,7 @@ icnf_declares (p ∷ w ∷ []) d e = by_test (bytes_eq p (112 ∷ []) && bytes_e
   by_test true e = cc
   by_test false e = absurd cc
 
-pub header_small : (f : Format) (ws : List (List ℕ)) (d : ℕ) → header_words f ws ≡ Ok d → d ≤ 1048576
+pub header_small : (f : Format) (ws : List (List ℕ)) (d : ℕ) → header_words f ws ≡ Ok d → d ≤ max_var
 header_small formats.Cnf ws d e = cnf_small ws d e
 header_small formats.Icnf ws d e = let none = icnf_declares ws d e in omega arith
 

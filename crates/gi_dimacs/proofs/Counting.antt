@@ -1,5 +1,5 @@
 -- Numbers from 0 up.
-use Rattle.std.proofs.Common.{◌≡◌, ◌≢◌, ℕ, zero, suc, ℤ, pos, negsuc, List, [], ◌∷◌, get_or, Option, Some, None, option_map, refl, ap, sym, ◌∙◌, arith, Bool, true, false, IsTrue}
+use Rattle.std.proofs.Common.{◌≡◌, ℕ, zero, suc, ℤ, pos, negsuc, List, [], ◌∷◌, get_or, Option, Some, None, option_map, refl, ap, ◌∙◌, Bool, false, IsTrue}
 use Rattle.std.proofs.lemmas.Bool.{ne_eqb}
 use Rattle.gi_text.specs.Numbers.{magnitude, negated, number_of, size_of}
 use Rattle.gi_dimacs.specs.Files.{from_zero, count_at}

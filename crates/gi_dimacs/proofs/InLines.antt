@@ -1,12 +1,10 @@
 -- What the machine does in a line.
-use Rattle.std.proofs.Common.{◌≡◌, ℕ, suc, ◌+◌, List, [], ◌∷◌, ◌++◌, length, Bool, true, false, ◌&&◌, ◌||◌, not, cond, ◌⊎◌, inl, inr, Option, Some, None, Result, Ok, Err, ℤ, pos, negsuc, zero, nat_le, refl, ap, sym, ◌∙◌, append_assoc, arith, subst}
+use Rattle.std.proofs.Common.{◌≡◌, ℕ, suc, List, [], ◌∷◌, ◌++◌, length, Bool, true, false, ◌&&◌, not, cond, ◌⊎◌, inl, inr, Result, Ok, Err, ℤ, pos, negsuc, zero, nat_le, refl, ap, sym, ◌∙◌, arith}
 use Rattle.std.specs.Prelude.{◌==◌}
-use Rattle.std.specs.List.{fold}
-use Rattle.std.specs.Str.{bytes_eq}
 use Rattle.std.specs.Global.{Global}
 use Rattle.std.proofs.lemmas.Bool.{ne_eqb}
 use Rattle.std.proofs.lemmas.Bool.Decides.{eqb_tells}
-use Rattle.gi_text.specs.Words.{is_white, word_of, words_from, words_of}
+use Rattle.gi_text.specs.Words.{is_white, words_from, words_of}
 use Rattle.gi_dimacs.specs.Lines.{is_plain}
 use Rattle.gi_dimacs.specs.declared.fault.CnfCode.{CnfCode}
 use Rattle.gi_dimacs.specs.declared.fault.CnfCode.TheVariants.{Limit, Word}
@@ -18,8 +16,9 @@ use Rattle.gi_dimacs.specs.declared.machine.Spot.TheVariants.{Start, Comment, Fi
 use Rattle.gi_dimacs.specs.declared.machine.Machine.{Machine}
 use Rattle.gi_dimacs.specs.Content.{format_of}
 use Rattle.gi_dimacs.specs.Files.{is_comment, is_end, is_ask, asked, with_assumption, number_in, add_word}
-use Rattle.gi_dimacs.specs.Machine.{head_step, end_phase, ask_phase, is_first, after_word, after_add, after_ask, body_word, word_by_phase, word_ends, line_by_phase, line_ends, go_inside, inside, is_over, is_start, in_comment, byte_in_line, take_byte, run}
+use Rattle.gi_dimacs.specs.Machine.{head_step, end_phase, ask_phase, is_first, after_word, after_add, after_ask, body_word, word_by_phase, word_ends, go_inside, inside, is_over, take_byte, run}
 use Rattle.gi_dimacs.proofs.Splitting.{IsPlain}
+use Rattle.gi_dimacs.specs.Limits.{most_assumptions}
 
 abbrev pub at : Global → ℕ → Phase → Spot → List ℕ → Taken → Machine
 at a k p sp w t = record { alloc = a; line = k; phase = p; spot = sp; word = w; taken = t }
@@ -70,11 +69,11 @@ by_words a k f w t = by_end (is_first (inner f) && is_end w) (is_first (inner f)
 by_number : (a : Global) (k : ℕ) (f : Bool) (w : List ℕ) (t : Taken) (r : Result ℤ CnfCode) → Left a k (after_ask r (at a k Ask (inner f) w t))
 by_number a k f w t (Err c) = record { phase = Failed c; taken = t; is = refl }
 by_number a k f w t (Ok (pos zero)) = record { phase = Asked; taken = asked t; is = refl }
-by_number a k f w t (Ok (pos (suc n))) = by_test (nat_le 1048576 (length t.begun)) where
+by_number a k f w t (Ok (pos (suc n))) = by_test (nat_le most_assumptions (length t.begun)) where
   by_test : (b : Bool) → Left a k (cond b (after_word (at a k Ask (inner f) w t) (Failed Limit) t) (after_word (at a k Ask (inner f) w t) Ask (with_assumption t (pos (suc n)))))
   by_test true = record { phase = Failed Limit; taken = t; is = refl }
   by_test false = record { phase = Ask; taken = with_assumption t (pos (suc n)); is = refl }
-by_number a k f w t (Ok (negsuc n)) = by_test (nat_le 1048576 (length t.begun)) where
+by_number a k f w t (Ok (negsuc n)) = by_test (nat_le most_assumptions (length t.begun)) where
   by_test : (b : Bool) → Left a k (cond b (after_word (at a k Ask (inner f) w t) (Failed Limit) t) (after_word (at a k Ask (inner f) w t) Ask (with_assumption t (negsuc n))))
   by_test true = record { phase = Failed Limit; taken = t; is = refl }
   by_test false = record { phase = Ask; taken = with_assumption t (negsuc n); is = refl }

@@ -1,19 +1,15 @@
 -- What is read stands in the relation, and what stands in it is read.
-use Rattle.std.proofs.Common.{◌≡◌, ◌≢◌, ℕ, zero, suc, ◌+◌, ◌*◌, ◌-◌, ◌/◌, ◌%◌, ◌<◌, ◌≤◌, max, nat_lt, nat_le, List, [], ◌∷◌, ◌++◌, length, Bool, true, false, ◌&&◌, ◌||◌, cond, ◌⊎◌, inl, inr, Option, Some, None, option_map, Result, Ok, Err, refl, ap, sym, ◌∙◌, append_assoc, length-append, add-zero, arith, ℤ, pos, negsuc, subst, map}
+use Rattle.std.proofs.Common.{◌≡◌, ◌≢◌, ℕ, zero, suc, ◌+◌, ◌*◌, ◌-◌, ◌/◌, ◌%◌, ◌<◌, ◌≤◌, max, nat_lt, nat_le, List, [], ◌∷◌, ◌++◌, length, Bool, true, false, cond, ◌⊎◌, inl, inr, Option, Some, None, Result, Ok, Err, refl, ap, sym, ◌∙◌, append_assoc, length-append, arith, ℤ, pos, negsuc, subst, map}
 use Rattle.std.specs.Prelude.{◌==◌}
 use Rattle.std.specs.List.{AllByRecursion}
-use Rattle.std.specs.Str.{bytes_eq, all_ascii_digits}
-use Rattle.std.specs.Char.{is_ascii_digit}
-use Rattle.std.proofs.lemmas.Bool.Decides.{eqb_tells, nat_tests}
-use Rattle.std.proofs.lemmas.Bool.{ltb-false, le-ltb, ne_eqb}
+use Rattle.std.proofs.lemmas.Bool.Decides.{nat_tests}
+use Rattle.std.proofs.lemmas.Bool.{ltb-false, ne_eqb}
 use Rattle.std.proofs.lemmas.List.{append-nil}
-use Rattle.gi_lit.specs.Literals.{literal_of}
+use Rattle.gi_lit.specs.Literals.{literal_of, max_var}
 use Rattle.gi_text.specs.Words.{words_of}
-use Rattle.gi_text.specs.Numbers.{number_of, size_of, magnitude, negated, read_on}
+use Rattle.gi_text.specs.Numbers.{number_of, size_of}
 use Rattle.gi_dimacs.specs.declared.fault.CnfCode.{CnfCode}
 use Rattle.gi_dimacs.specs.declared.fault.CnfCode.TheVariants.{Limit, Word, Unterminated}
-use Rattle.gi_dimacs.specs.declared.fault.CnfCode.TheVariants as codes
-use Rattle.gi_dimacs.specs.declared.fault.CnfFault.{CnfFault}
 use Rattle.gi_dimacs.specs.declared.items.Item.{Item}
 use Rattle.gi_dimacs.specs.declared.items.Item.TheVariants.{Clause, Ask}
 use Rattle.gi_dimacs.specs.declared.content.Format.{Format}
@@ -22,10 +18,10 @@ use Rattle.gi_dimacs.specs.declared.content.Content.{Content}
 use Rattle.gi_dimacs.specs.declared.content.Content.TheVariants.{Clauses, Items}
 use Rattle.gi_dimacs.specs.declared.words.Taken.{Taken}
 use Rattle.gi_dimacs.specs.Lines.{lines_of}
-use Rattle.gi_dimacs.specs.Content.{File, nothing, format_of, with_item, items_of, clauses_in, literals_in, greatest, greatest_of}
+use Rattle.gi_dimacs.specs.Content.{File, format_of, with_item, items_of, clauses_in, literals_in, greatest, greatest_of}
 use Rattle.gi_dimacs.specs.Files.{begin, closed, asked, with_literal, with_assumption, add_number, within_variables, begins_number, number_in, then_number, add_word, add_words, then_words, ask_ends, ask_number, ask_words, is_comment, is_end, is_ask, Move, Goes, Ends, Stops, moves, ask_line, body_words, body_line, whole, after_move, read_body, begin_body, head_words, header_words, read_lines, read_file}
-use Rattle.gi_dimacs.specs.Relation.{line_words, begins_end, begins_ask, Token, Number, Asks, to_number, list_tokens, AreNumbers, SaysAsk, LineSays, LinesSay, tokens_of, IsProper, IsFile}
-use Rattle.gi_dimacs.proofs.WholeTexts.{format_of-nothing}
+use Rattle.gi_dimacs.specs.Relation.{line_words, begins_end, begins_ask, Token, Number, Asks, to_number, list_tokens, AreNumbers, LineSays, LinesSay, tokens_of, IsProper, IsFile}
+use Rattle.gi_dimacs.specs.Limits.{most_assumptions}
 
 -- codes and numbers
 to_number-literal_of : (z : ℤ) → z ≢ pos 0 → to_number (literal_of z) ≡ z
@@ -136,7 +132,7 @@ pub record Told (format : Format) (declared : ℕ) (done : List Token) (t : Take
   pub proper : AllByRecursion IsProper (items_of t.content)
   pub proper_begun : AllByRecursion Proper t.begun
   pub vars : t.vars ≡ max declared (max (greatest_of (items_of t.content)) (greatest t.begun))
-  pub small : max (greatest_of (items_of t.content)) (greatest t.begun) ≤ 1048576
+  pub small : max (greatest_of (items_of t.content)) (greatest t.begun) ≤ max_var
   pub ended : t.ended ≡ clauses_in (items_of t.content)
   pub clauses : t.ended ≤ 4194304
   pub count : t.literals ≡ literals_in (items_of t.content) + length t.begun
@@ -159,7 +155,7 @@ told_zero f d done t room h =
       literals = h.literals;
     }
 
-told_literal : (f : Format) (d : ℕ) (done : List Token) (t : Taken) (z : ℤ) → z ≢ pos 0 → size_of z ≤ 1048576 → t.literals < 67108864 → Told f d done t → Told f d (done ++ Number z ∷ []) (with_literal t z)
+told_literal : (f : Format) (d : ℕ) (done : List Token) (t : Taken) (z : ℤ) → z ≢ pos 0 → size_of z ≤ max_var → t.literals < 67108864 → Told f d done t → Told f d (done ++ Number z ∷ []) (with_literal t z)
 told_literal f d done t z some small room h = record {
   of_format = h.of_format;
   tokens = ap (λ ts. ts ++ Number z ∷ []) h.tokens ∙ append_assoc (tokens_of (items_of t.content)) (numbers_of t.begun) (Number z ∷ [])
@@ -174,7 +170,7 @@ told_literal f d done t z some small room h = record {
   literals = omega arith;
 }
 
-told_ask : (f : Format) (d : ℕ) (done : List Token) (t : Taken) (c : List ℕ) → f ≡ formats.Icnf → t.begun ≡ [] → AllByRecursion Proper c → greatest c ≤ 1048576 → length c ≤ 1048576 → Told f d done t
+told_ask : (f : Format) (d : ℕ) (done : List Token) (t : Taken) (c : List ℕ) → f ≡ formats.Icnf → t.begun ≡ [] → AllByRecursion Proper c → greatest c ≤ max_var → length c ≤ most_assumptions → Told f d done t
     → Told f d (done ++ Asks c ∷ []) (record { vars = max t.vars (greatest c); content = with_item t.content (Ask c); ended = t.ended; begun = []; literals = t.literals })
 told_ask f d done t c icnf none proper small len h =
     let is = items-ask t.content c (h.of_format ∙ icnf) in
@@ -201,7 +197,7 @@ le-false a b h = grind (arith, nat_tests)
 ok_same : (r : Result Taken CnfCode) (x y : Taken) → r ≡ Ok x → r ≡ Ok y → x ≡ y
 ok_same r x y a b = cc
 
-told_number : (f : Format) (d : ℕ) (done : List Token) (t u : Taken) (z : ℤ) → size_of z ≤ 1048576 → add_number t z ≡ Ok u → Told f d done t → Told f d (done ++ Number z ∷ []) u
+told_number : (f : Format) (d : ℕ) (done : List Token) (t u : Taken) (z : ℤ) → size_of z ≤ max_var → add_number t z ≡ Ok u → Told f d done t → Told f d (done ++ Number z ∷ []) u
 told_number f d done t u (pos zero) small e h = by_test (nat_le 4194304 t.ended) refl e where
   by_test : (b : Bool) → nat_le 4194304 t.ended ≡ b → cond b (Err Limit) (Ok (closed t)) ≡ Ok u → Told f d (done ++ Number (pos 0) ∷ []) u
   by_test true is e = absurd cc
@@ -218,18 +214,18 @@ told_number f d done t u (negsuc n) small e h = by_test (nat_le 67108864 t.liter
 -- a word that is a number of a list
 pub record IsNumberIn (w : List ℕ) (z : ℤ) : Type 0 where
   pub number : number_of w ≡ Some z
-  pub small : size_of z ≤ 1048576
+  pub small : size_of z ≤ max_var
 
 is_number_in : (w : List ℕ) (z : ℤ) → number_in w ≡ Ok z → IsNumberIn w z
 unfolding number_in
 is_number_in w z e = by_begin (begins_number w) e where
-  by_size : (y : ℤ) → number_of w ≡ Some y → (b : Bool) → nat_lt 1048576 (size_of y) ≡ b → cond b (Err Limit) (Ok y) ≡ Ok z → IsNumberIn w z
+  by_size : (y : ℤ) → number_of w ≡ Some y → (b : Bool) → nat_lt max_var (size_of y) ≡ b → cond b (Err Limit) (Ok y) ≡ Ok z → IsNumberIn w z
   by_size y n true is e = absurd cc
-  by_size y n false is e = let same : y ≡ z = cc in subst (λ x. IsNumberIn w x) same (record { number = n; small = ltb-false 1048576 (size_of y) is })
+  by_size y n false is e = let same : y ≡ z = cc in subst (λ x. IsNumberIn w x) same (record { number = n; small = ltb-false max_var (size_of y) is })
 
   by_number : (o : Option ℤ) → number_of w ≡ o → within_variables o ≡ Ok z → IsNumberIn w z
   by_number None n e = absurd cc
-  by_number (Some y) n e = by_size y n (nat_lt 1048576 (size_of y)) refl e
+  by_number (Some y) n e = by_size y n (nat_lt max_var (size_of y)) refl e
 
   by_begin : (b : Bool) → cond b (within_variables (number_of w)) (Err Word) ≡ Ok z → IsNumberIn w z
   by_begin true e = by_number (number_of w) refl e
@@ -275,16 +271,16 @@ pub record SayList (t u : Taken) (ws : List (List ℕ)) : Type 0 where
   pub lits : List ℕ
   pub spelled : AreNumbers ws (list_tokens lits)
   pub proper : AllByRecursion Proper lits
-  pub small : greatest lits ≤ 1048576
-  pub len : length t.begun + length lits ≤ 1048576
+  pub small : greatest lits ≤ max_var
+  pub len : length t.begun + length lits ≤ most_assumptions
   pub is : u ≡ with_ask t lits
 
-say_none : (t u : Taken) (w : List ℕ) → number_of w ≡ Some (pos 0) → length t.begun ≤ 1048576 → u ≡ asked t → SayList t u (w ∷ [])
+say_none : (t u : Taken) (w : List ℕ) → number_of w ≡ Some (pos 0) → length t.begun ≤ most_assumptions → u ≡ asked t → SayList t u (w ∷ [])
 say_none t u w n len e =
     let same : max t.vars 0 ≡ t.vars = omega arith in
     record { lits = []; spelled = (n, tt); proper = tt; small = omega arith; len = omega arith; is = e ∙ rw (append-nil t.begun, same) refl }
 
-say_more : (t u : Taken) (z : ℤ) (w : List ℕ) (ws : List (List ℕ)) → number_of w ≡ Some z → size_of z ≤ 1048576 → z ≢ pos 0 → SayList (with_assumption t z) u ws → SayList t u (w ∷ ws)
+say_more : (t u : Taken) (z : ℤ) (w : List ℕ) (ws : List (List ℕ)) → number_of w ≡ Some z → size_of z ≤ max_var → z ≢ pos 0 → SayList (with_assumption t z) u ws → SayList t u (w ∷ ws)
 say_more t u z w ws n small some s =
     let half = half_code z in
     let regroup : (t.begun ++ literal_of z ∷ []) ++ s.lits ≡ t.begun ++ literal_of z ∷ s.lits = append_assoc t.begun (literal_of z ∷ []) s.lits in
@@ -298,7 +294,7 @@ say_more t u z w ws n small some s =
       is = s.is ∙ rw (regroup, greater) refl;
     }
 
-told_list : (t u : Taken) (ws : List (List ℕ)) → length t.begun ≤ 1048576 → ask_words t ws ≡ Ok u → SayList t u ws
+told_list : (t u : Taken) (ws : List (List ℕ)) → length t.begun ≤ most_assumptions → ask_words t ws ≡ Ok u → SayList t u ws
 unfolding ask_words
 told_list t u [] len e = absurd cc
 told_list t u (w ∷ ws) len e = by_number (number_in w) refl e (λ v len e. told_list v u ws len e) where
@@ -306,19 +302,19 @@ told_list t u (w ∷ ws) len e = by_number (number_in w) refl e (λ v len e. tol
   by_zero [] n e = let same : asked t ≡ u = cc in say_none t u w n len (sym same)
   by_zero (x ∷ ws) n e = absurd cc
 
-  by_room : (z : ℤ) → IsNumberIn w z → z ≢ pos 0 → (b : Bool) → nat_le 1048576 (length t.begun) ≡ b → cond b (Err Limit) (ask_words (with_assumption t z) ws) ≡ Ok u
-      → ((v : Taken) → length v.begun ≤ 1048576 → ask_words v ws ≡ Ok u → SayList v u ws) → SayList t u (w ∷ ws)
+  by_room : (z : ℤ) → IsNumberIn w z → z ≢ pos 0 → (b : Bool) → nat_le most_assumptions (length t.begun) ≡ b → cond b (Err Limit) (ask_words (with_assumption t z) ws) ≡ Ok u
+      → ((v : Taken) → length v.begun ≤ most_assumptions → ask_words v ws ≡ Ok u → SayList v u ws) → SayList t u (w ∷ ws)
   by_room z n some true is e ih = absurd cc
   by_room z n some false is e ih =
-      let below = le-false 1048576 (length t.begun) is in
+      let below = le-false most_assumptions (length t.begun) is in
       say_more t u z w ws n.number n.small some (ih (with_assumption t z) (omega (arith, length-append t.begun (literal_of z ∷ []))) e)
 
   by_number : (r : Result ℤ CnfCode) → number_in w ≡ r → ask_number t r ws (λ v. ask_words v ws) ≡ Ok u
-      → ((v : Taken) → length v.begun ≤ 1048576 → ask_words v ws ≡ Ok u → SayList v u ws) → SayList t u (w ∷ ws)
+      → ((v : Taken) → length v.begun ≤ most_assumptions → ask_words v ws ≡ Ok u → SayList v u ws) → SayList t u (w ∷ ws)
   by_number (Err c) is e ih = absurd cc
   by_number (Ok (pos zero)) is e ih = by_zero ws (is_number_in w (pos 0) is).number e
-  by_number (Ok (pos (suc n))) is e ih = by_room (pos (suc n)) (is_number_in w (pos (suc n)) is) (λ q. cc) (nat_le 1048576 (length t.begun)) refl e ih
-  by_number (Ok (negsuc n)) is e ih = by_room (negsuc n) (is_number_in w (negsuc n) is) (λ q. cc) (nat_le 1048576 (length t.begun)) refl e ih
+  by_number (Ok (pos (suc n))) is e ih = by_room (pos (suc n)) (is_number_in w (pos (suc n)) is) (λ q. cc) (nat_le most_assumptions (length t.begun)) refl e ih
+  by_number (Ok (negsuc n)) is e ih = by_room (negsuc n) (is_number_in w (negsuc n) is) (λ q. cc) (nat_le most_assumptions (length t.begun)) refl e ih
 
 nil_of : (xs : List ℕ) → (length xs == 0) ≡ true → xs ≡ []
 nil_of [] e = refl

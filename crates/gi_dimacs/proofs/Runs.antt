@@ -1,10 +1,9 @@
 -- What the machine makes of a line of the body, and of the header's.
-use Rattle.std.proofs.Common.{◌≡◌, ℕ, suc, ◌+◌, ◌<◌, ◌≤◌, min, nat_lt, nat_le, List, [], ◌∷◌, ◌++◌, length, Bool, true, false, ◌&&◌, ◌||◌, not, cond, ◌⊎◌, inl, inr, Option, Some, None, Result, Ok, Err, ℤ, pos, negsuc, zero, refl, ap, sym, ◌∙◌, append_assoc, arith, subst}
+use Rattle.std.proofs.Common.{◌≡◌, ℕ, suc, ◌+◌, min, nat_lt, nat_le, List, [], ◌∷◌, length, Bool, true, false, ◌&&◌, ◌||◌, not, cond, Option, Some, None, Result, Ok, Err, ℤ, pos, negsuc, zero, refl, ap, sym, ◌∙◌, arith, subst}
 use Rattle.std.specs.Prelude.{◌==◌}
-use Rattle.std.specs.List.{fold}
 use Rattle.std.specs.Str.{bytes_eq}
 use Rattle.std.specs.Global.{Global}
-use Rattle.std.proofs.lemmas.Bool.{lt-ltb, ltb-true, ltb-false, le-ltb}
+use Rattle.std.proofs.lemmas.Bool.{ltb-false}
 use Rattle.std.proofs.lemmas.Bool.Decides.{nat_tests}
 use Rattle.gi_text.specs.Words.{words_from, words_of}
 use Rattle.gi_dimacs.specs.declared.fault.CnfCode.{CnfCode}
@@ -21,8 +20,10 @@ use Rattle.gi_dimacs.specs.declared.machine.Spot.TheVariants.{Start, Comment, Fi
 use Rattle.gi_dimacs.specs.declared.machine.Machine.{Machine}
 use Rattle.gi_dimacs.specs.Content.{format_of}
 use Rattle.gi_dimacs.specs.Files.{is_comment, is_end, is_ask, add_word, add_words, then_words, asked, with_assumption, number_in, ask_number, ask_ends, ask_words, ask_line, Move, Goes, Ends, Stops, moves, body_words, body_line, count_at, check_counts, header_words}
-use Rattle.gi_dimacs.specs.Machine.{head_step, named_head, head_counts, vars_head, whole_head, end_phase, ask_phase, is_first, after_word, after_add, after_ask, body_word, after_head, line_by_phase, line_ends, new_line, is_over}
+use Rattle.gi_dimacs.specs.Machine.{head_step, head_counts, vars_head, whole_head, end_phase, ask_phase, after_add, after_ask, body_word, after_head, line_by_phase, line_ends, is_over}
 use Rattle.gi_dimacs.proofs.InLines.{at, eat, eats, over_eats, first_spot}
+use Rattle.gi_lit.specs.Literals.{max_var}
+use Rattle.gi_dimacs.specs.Limits.{most_assumptions}
 
 abbrev pub Done : Global → ℕ → Result Taken CnfCode → Machine → Type 0
 Done a k (Ok u) s = (sp : Spot) × (s ≡ at a k Body sp [] u)
@@ -97,8 +98,8 @@ ask_done a k t u (w ∷ ws) = by_number (number_in w) (λ v. ask_done a k v u ws
       → MoveDone a k u (moves (ask_number t r ws (λ v. ask_words v ws))) (eats (after_ask r (at a k Ask Later w t)) ws)
   by_number (Err c) ih = failed_words a k c t u ws
   by_number (Ok (pos zero)) ih = asked_words a k t u ws
-  by_number (Ok (pos (suc n))) ih = by_room (nat_le 1048576 (length t.begun)) (with_assumption t (pos (suc n))) (ih (with_assumption t (pos (suc n))))
-  by_number (Ok (negsuc n)) ih = by_room (nat_le 1048576 (length t.begun)) (with_assumption t (negsuc n)) (ih (with_assumption t (negsuc n)))
+  by_number (Ok (pos (suc n))) ih = by_room (nat_le most_assumptions (length t.begun)) (with_assumption t (pos (suc n))) (ih (with_assumption t (pos (suc n))))
+  by_number (Ok (negsuc n)) ih = by_room (nat_le most_assumptions (length t.begun)) (with_assumption t (negsuc n)) (ih (with_assumption t (negsuc n)))
 
 first_word : (a : Global) (k : ℕ) (t : Taken) (w : List ℕ) → eat (at a k Body First [] t) w ≡ cond (is_end w) (at a k (end_phase t.begun) Later [] t) (cond (is_ask (format_of t.content) w) (at a k (ask_phase t.begun) Later [] t) (after_add (add_word t w) (at a k Body First w t)))
 unfolding body_word
@@ -178,18 +179,18 @@ record Says (h : Head) (r : Result ℕ CnfCode) : Type 0 where
 bad_says : (f : Format) (ws : List (List ℕ)) → Says (head_of f heads.Bad ws) (Err Header)
 bad_says f ws = subst (λ h. Says h (Err Header)) (sym (bad_stays f ws)) (record { some = refl; counts = refl })
 
-counts_say : (v c : ℕ) → Says (heads.Whole (min v 1048577) (nat_le c 4294967295)) (cond (nat_lt 1048576 v || nat_lt 4294967295 c) (Err Limit) (Ok v))
-counts_say v c = record { some = refl; counts = rw (same_le, same_lt) (same (nat_lt 1048576 v) refl (nat_lt 4294967295 c)) } where
+counts_say : (v c : ℕ) → Says (heads.Whole (min v (max_var + 1)) (nat_le c 4294967295)) (cond (nat_lt max_var v || nat_lt 4294967295 c) (Err Limit) (Ok v))
+counts_say v c = record { some = refl; counts = rw (same_le, same_lt) (same (nat_lt max_var v) refl (nat_lt 4294967295 c)) } where
   same_le : not (nat_le c 4294967295) ≡ nat_lt 4294967295 c
   same_le = grind (arith, nat_tests)
 
-  same_lt : nat_lt 1048576 (min v 1048577) ≡ nat_lt 1048576 v
+  same_lt : nat_lt max_var (min v (max_var + 1)) ≡ nat_lt max_var v
   same_lt = grind (arith, nat_tests)
 
-  small : nat_lt 1048576 v ≡ false → min v 1048577 ≡ v
-  small e = omega (arith, ltb-false 1048576 v e)
+  small : nat_lt max_var v ≡ false → min v (max_var + 1) ≡ v
+  small e = omega (arith, ltb-false max_var v e)
 
-  same : (b : Bool) → nat_lt 1048576 v ≡ b → (d : Bool) → cond (b || d) (Err Limit) (Ok (min v 1048577)) ≡ cond (b || d) (Err Limit) (Ok v)
+  same : (b : Bool) → nat_lt max_var v ≡ b → (d : Bool) → cond (b || d) (Err Limit) (Ok (min v (max_var + 1))) ≡ cond (b || d) (Err Limit) (Ok v)
   same true e d = refl
   same false e true = refl
   same false e false = ap Ok (small e)
@@ -207,13 +208,13 @@ by_vars (Some v) = record { some = refl; counts = refl }
 by_vars None = record { some = refl; counts = refl }
 
 by_both : (v c : Option ℕ) (w : List ℕ) → c ≡ count_at w → Says (head_step formats.Cnf (vars_head v) w) (check_counts v c)
-by_both (Some v) (Some c) w e = subst (λ o. Says (whole_head (min v 1048577) o) (check_counts (Some v) (Some c))) e (counts_say v c)
-by_both (Some v) None w e = subst (λ o. Says (whole_head (min v 1048577) o) (check_counts (Some v) None)) e (record { some = refl; counts = refl })
+by_both (Some v) (Some c) w e = subst (λ o. Says (whole_head (min v (max_var + 1)) o) (check_counts (Some v) (Some c))) e (counts_say v c)
+by_both (Some v) None w e = subst (λ o. Says (whole_head (min v (max_var + 1)) o) (check_counts (Some v) None)) e (record { some = refl; counts = refl })
 by_both None c w e = record { some = refl; counts = refl }
 
 by_many : (v c : Option ℕ) (w x : List ℕ) (ws : List (List ℕ)) → c ≡ count_at w → Says (head_of formats.Cnf (head_step formats.Cnf (head_step formats.Cnf (vars_head v) w) x) ws) (Err Header)
-by_many (Some v) (Some c) w x ws e = subst (λ o. Says (head_of formats.Cnf (head_step formats.Cnf (whole_head (min v 1048577) o) x) ws) (Err Header)) e (bad_says formats.Cnf ws)
-by_many (Some v) None w x ws e = subst (λ o. Says (head_of formats.Cnf (head_step formats.Cnf (whole_head (min v 1048577) o) x) ws) (Err Header)) e (bad_says formats.Cnf ws)
+by_many (Some v) (Some c) w x ws e = subst (λ o. Says (head_of formats.Cnf (head_step formats.Cnf (whole_head (min v (max_var + 1)) o) x) ws) (Err Header)) e (bad_says formats.Cnf ws)
+by_many (Some v) None w x ws e = subst (λ o. Says (head_of formats.Cnf (head_step formats.Cnf (whole_head (min v (max_var + 1)) o) x) ws) (Err Header)) e (bad_says formats.Cnf ws)
 by_many None c w x ws e = bad_says formats.Cnf ws
 
 abbrev is_cnf : List ℕ → Bool

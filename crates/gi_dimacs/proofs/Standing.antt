@@ -1,10 +1,9 @@
 -- A fault at a line of the input stands, however the input goes on behind that line.
-use Rattle.std.proofs.Common.{◌≡◌, ◌≢◌, ℕ, zero, suc, ◌+◌, ◌-◌, ◌<◌, ◌≤◌, List, [], ◌∷◌, ◌++◌, length, take, Bool, true, false, cond, ◌⊎◌, inl, inr, Result, Ok, Err, refl, ap, sym, ◌∙◌, append_assoc, arith, add-zero}
-use Rattle.std.specs.Prelude.{◌==◌, not}
-use Rattle.std.specs.List.{AllByRecursion, flat_map}
-use Rattle.std.proofs.lemmas.Bool.Decides.{eqb_tells}
+use Rattle.std.proofs.Common.{◌≡◌, ℕ, zero, suc, ◌+◌, ◌<◌, ◌≤◌, List, [], ◌∷◌, ◌++◌, length, take, Bool, true, false, cond, ◌⊎◌, inl, inr, Result, Ok, Err, refl, ap, sym, ◌∙◌, append_assoc, arith, add-zero}
+use Rattle.std.specs.Prelude.{◌==◌}
+use Rattle.std.specs.List.{AllByRecursion}
 use Rattle.gi_text.specs.Words.{words_of}
-use Rattle.gi_dimacs.specs.Lines.{lines_of, with_byte, is_plain, text_of}
+use Rattle.gi_dimacs.specs.Lines.{lines_of, with_byte, text_of}
 use Rattle.gi_dimacs.specs.declared.fault.CnfCode.{CnfCode}
 use Rattle.gi_dimacs.specs.declared.fault.CnfCode.TheVariants.{Header, Unterminated}
 use Rattle.gi_dimacs.specs.declared.fault.CnfFault.{CnfFault}

@@ -1,5 +1,5 @@
 -- What is written stands in the relation.
-use Rattle.std.proofs.Common.{◌≡◌, ◌≢◌, ℕ, zero, suc, ◌+◌, ◌*◌, ◌-◌, ◌/◌, ◌%◌, ◌^◌, ◌<◌, ◌≤◌, max, nat_lt, nat_le, List, [], ◌∷◌, ◌++◌, length, Bool, true, false, ◌&&◌, ◌||◌, not, cond, ◌⊎◌, inl, inr, Option, Some, None, option_map, Result, Ok, Err, refl, ap, sym, ◌∙◌, append_assoc, length-append, add-zero, arith, ℤ, pos, negsuc, subst, get_or, decimal, rules, map}
+use Rattle.std.proofs.Common.{◌≡◌, ◌≢◌, ℕ, suc, ◌+◌, ◌-◌, ◌/◌, ◌%◌, ◌^◌, ◌<◌, ◌≤◌, nat_lt, List, [], ◌∷◌, ◌++◌, length, Bool, true, false, ◌&&◌, ◌||◌, not, ◌⊎◌, inl, inr, Some, option_map, Ok, refl, ap, sym, ◌∙◌, append_assoc, length-append, arith, pos, negsuc, subst, decimal, rules, map}
 use Rattle.std.specs.Prelude.{◌==◌}
 use Rattle.std.specs.List.{AllByRecursion, flat_map, list_all}
 use Rattle.std.specs.Str.{all_ascii_digits, bytes_eq}
@@ -10,7 +10,7 @@ use Rattle.std.proofs.lemmas.List.{append-nil}
 use Rattle.std.proofs.lemmas.Fmt.{digits_decimal, digits_value-decimal, decimal_nonempty}
 use Rattle.std.proofs.lemmas.Str.Parse.{IsNumeralModel, numerals_by_fold}
 use Rattle.gi_text.specs.Words.{is_white, word_of, words_from, words_of}
-use Rattle.gi_text.specs.Numbers.{read_on, magnitude, negated, number_of}
+use Rattle.gi_text.specs.Numbers.{read_on, magnitude, number_of}
 use Rattle.gi_dimacs.specs.declared.cnf.Cnf.{Cnf}
 use Rattle.gi_dimacs.specs.declared.cnf.Icnf.{Icnf}
 use Rattle.gi_dimacs.specs.declared.items.Item.{Item}
@@ -19,12 +19,13 @@ use Rattle.gi_dimacs.specs.declared.content.Format.TheVariants as formats
 use Rattle.gi_dimacs.specs.Lines.{is_plain, lines_of, text_of}
 use Rattle.gi_dimacs.specs.Literals.{literal_text}
 use Rattle.gi_dimacs.specs.Content.{clauses_in, greatest, greatest_of}
-use Rattle.gi_dimacs.specs.Files.{begins_number, is_comment, is_end, count_at, from_zero, header_words}
-use Rattle.gi_dimacs.specs.Relation.{line_words, begins_end, begins_ask, Token, Number, Asks, to_number, list_tokens, AreNumbers, SaysAsk, LineSays, LinesSay, tokens_of, IsProper, IsFile, IsCnf, IsIcnf}
+use Rattle.gi_dimacs.specs.Files.{begins_number, is_comment, header_words}
+use Rattle.gi_dimacs.specs.Relation.{line_words, begins_end, begins_ask, Asks, to_number, list_tokens, AreNumbers, SaysAsk, LinesSay, tokens_of, IsProper, IsCnf, IsIcnf}
 use Rattle.gi_dimacs.specs.Texts.{clause_text, item_text, cnf_header, icnf_header, cnf_text, icnf_text, IsLiteralOf, IsItemOf, IsGood, IsGoodIcnf}
 use Rattle.gi_dimacs.proofs.Splitting.{IsPlain}
 use Rattle.gi_dimacs.proofs.Standing.{lines_of-text}
 use Rattle.gi_dimacs.proofs.Relating.{words_plain}
+use Rattle.gi_lit.specs.Literals.{max_var}
 
 own : IsNumeralModel (λ ds. all_ascii_digits ds ≡ true) (read_on 0)
 unfolding read_on
@@ -125,7 +126,7 @@ spelled_shape l low small =
       | inr f ↦ rw f.0 (refl, digits_in_word (decimal (l / 2)) digits, omega arith)
     ]
 
-pub spelled : (l : ℕ) → 1 ≤ l / 2 → l / 2 ≤ 1048576 → Spelled l (literal_text l)
+pub spelled : (l : ℕ) → 1 ≤ l / 2 → l / 2 ≤ max_var → Spelled l (literal_text l)
 spelled l low high =
     let small : l / 2 < 2 ^ 64 = omega arith in
     let shape = spelled_shape l low small in
@@ -136,7 +137,7 @@ clause_words : List ℕ → List (List ℕ)
 clause_words [] = (48 ∷ []) ∷ []
 clause_words (l ∷ ls) = literal_text l ∷ clause_words ls
 
-words_clause : (vars : ℕ) (c : List ℕ) → vars ≤ 1048576 → AllByRecursion (IsLiteralOf vars) c → words_of (clause_text c) ≡ clause_words c
+words_clause : (vars : ℕ) (c : List ℕ) → vars ≤ max_var → AllByRecursion (IsLiteralOf vars) c → words_of (clause_text c) ≡ clause_words c
 unfolding clause_words words_from
 words_clause vars [] high ok = refl
 words_clause vars (l ∷ ls) high ok =
@@ -144,7 +145,7 @@ words_clause vars (l ∷ ls) high ok =
     ap words_of (append_assoc (literal_text l ++ 32 ∷ []) (flat_map (λ m. literal_text m ++ 32 ∷ []) ls) (48 ∷ []) ∙ append_assoc (literal_text l) (32 ∷ []) (clause_text ls))
     ∙ word_space [] (literal_text l) (clause_text ls) s.word (omega (arith, s.some)) ∙ ap (λ ws. literal_text l ∷ ws) (words_clause vars ls high ok.1)
 
-clause_numbers : (vars : ℕ) (c : List ℕ) → vars ≤ 1048576 → AllByRecursion (IsLiteralOf vars) c → AreNumbers (clause_words c) (list_tokens c)
+clause_numbers : (vars : ℕ) (c : List ℕ) → vars ≤ max_var → AllByRecursion (IsLiteralOf vars) c → AreNumbers (clause_words c) (list_tokens c)
 unfolding clause_words number_of magnitude read_on
 clause_numbers vars [] high ok = (refl, tt)
 clause_numbers vars (l ∷ ls) high ok = ((spelled l ok.0.0 (omega (arith, ok.0.1))).number, clause_numbers vars ls high ok.1)
@@ -164,22 +165,22 @@ no_word : (n : ℕ) → ((n == 45) || is_ascii_digit n) ≡ false → (w : List 
 no_word n other [] h = refl
 no_word n other (b ∷ bs) h = let e = not_byte n other (b ∷ bs) [] h b bs refl in rw e refl
 
-clause_no_comment : (vars : ℕ) (c : List ℕ) → vars ≤ 1048576 → AllByRecursion (IsLiteralOf vars) c → is_comment (clause_text c) ≡ false
+clause_no_comment : (vars : ℕ) (c : List ℕ) → vars ≤ max_var → AllByRecursion (IsLiteralOf vars) c → is_comment (clause_text c) ≡ false
 clause_no_comment vars [] high ok = refl
 clause_no_comment vars (l ∷ ls) high ok =
     let s = spelled l ok.0.0 (omega (arith, ok.0.1)) in
     ap is_comment (append_assoc (literal_text l ++ 32 ∷ []) (flat_map (λ m. literal_text m ++ 32 ∷ []) ls) (48 ∷ []) ∙ append_assoc (literal_text l) (32 ∷ []) (clause_text ls))
     ∙ no_comment (literal_text l) (32 ∷ clause_text ls) s.begins
 
-clause_line : (vars : ℕ) (c : List ℕ) → vars ≤ 1048576 → AllByRecursion (IsLiteralOf vars) c → line_words (clause_text c) ≡ clause_words c
+clause_line : (vars : ℕ) (c : List ℕ) → vars ≤ max_var → AllByRecursion (IsLiteralOf vars) c → line_words (clause_text c) ≡ clause_words c
 clause_line vars c high ok = words_plain (clause_text c) (clause_no_comment vars c high ok) ∙ words_clause vars c high ok
 
-clause_goes : (vars : ℕ) (c : List ℕ) → vars ≤ 1048576 → AllByRecursion (IsLiteralOf vars) c → begins_end (clause_words c) ≡ false
+clause_goes : (vars : ℕ) (c : List ℕ) → vars ≤ max_var → AllByRecursion (IsLiteralOf vars) c → begins_end (clause_words c) ≡ false
 unfolding clause_words
 clause_goes vars [] high ok = refl
 clause_goes vars (l ∷ ls) high ok = no_word 37 refl (literal_text l) (spelled l ok.0.0 (omega (arith, ok.0.1))).begins
 
-clause_no_ask : (vars : ℕ) (c : List ℕ) → vars ≤ 1048576 → AllByRecursion (IsLiteralOf vars) c → begins_ask formats.Icnf (clause_words c) ≡ false
+clause_no_ask : (vars : ℕ) (c : List ℕ) → vars ≤ max_var → AllByRecursion (IsLiteralOf vars) c → begins_ask formats.Icnf (clause_words c) ≡ false
 unfolding clause_words
 clause_no_ask vars [] high ok = refl
 clause_no_ask vars (l ∷ ls) high ok = no_word 97 refl (literal_text l) (spelled l ok.0.0 (omega (arith, ok.0.1))).begins
@@ -188,7 +189,7 @@ no_ask : (ws : List (List ℕ)) → begins_ask formats.Cnf ws ≡ false
 no_ask [] = refl
 no_ask (w ∷ ws) = refl
 
-ask_words_are : (vars : ℕ) (c : List ℕ) → vars ≤ 1048576 → AllByRecursion (IsLiteralOf vars) c → line_words (item_text (Ask c)) ≡ (97 ∷ []) ∷ clause_words c
+ask_words_are : (vars : ℕ) (c : List ℕ) → vars ≤ max_var → AllByRecursion (IsLiteralOf vars) c → line_words (item_text (Ask c)) ≡ (97 ∷ []) ∷ clause_words c
 unfolding line_words words_from
 ask_words_are vars c high ok = ap (λ ws. (97 ∷ []) ∷ ws) (words_clause vars c high ok)
 
@@ -196,21 +197,21 @@ ask_words_are vars c high ok = ap (λ ws. (97 ∷ []) ∷ ws) (words_clause vars
 abbrev Going : List ℕ → Type 0
 Going l = begins_end (line_words l) ≡ false
 
-clauses_going : (vars : ℕ) (cs : List (List ℕ)) → vars ≤ 1048576 → AllByRecursion (IsItemOf vars) (map Clause cs) → AllByRecursion Going (map clause_text cs)
+clauses_going : (vars : ℕ) (cs : List (List ℕ)) → vars ≤ max_var → AllByRecursion (IsItemOf vars) (map Clause cs) → AllByRecursion Going (map clause_text cs)
 clauses_going vars [] high ok = tt
 clauses_going vars (c ∷ cs) high ok = (ap begins_end (clause_line vars c high ok.0) ∙ clause_goes vars c high ok.0, clauses_going vars cs high ok.1)
 
-clauses_say : (vars : ℕ) (cs : List (List ℕ)) → vars ≤ 1048576 → AllByRecursion (IsItemOf vars) (map Clause cs) → LinesSay formats.Cnf (map clause_text cs) (tokens_of (map Clause cs))
+clauses_say : (vars : ℕ) (cs : List (List ℕ)) → vars ≤ max_var → AllByRecursion (IsItemOf vars) (map Clause cs) → LinesSay formats.Cnf (map clause_text cs) (tokens_of (map Clause cs))
 clauses_say vars [] high ok = refl
 clauses_say vars (c ∷ cs) high ok =
     (list_tokens c, tokens_of (map Clause cs), refl, inl (no_ask (line_words (clause_text c)), subst (λ ws. AreNumbers ws (list_tokens c)) (sym (clause_line vars c high ok.0)) (clause_numbers vars c high ok.0)), clauses_say vars cs high ok.1)
 
-items_going : (vars : ℕ) (is : List Item) → vars ≤ 1048576 → AllByRecursion (IsItemOf vars) is → AllByRecursion Going (map item_text is)
+items_going : (vars : ℕ) (is : List Item) → vars ≤ max_var → AllByRecursion (IsItemOf vars) is → AllByRecursion Going (map item_text is)
 items_going vars [] high ok = tt
 items_going vars (Clause c ∷ is) high ok = (ap begins_end (clause_line vars c high ok.0) ∙ clause_goes vars c high ok.0, items_going vars is high ok.1)
 items_going vars (Ask c ∷ is) high ok = (ap begins_end (ask_words_are vars c high ok.0.0), items_going vars is high ok.1)
 
-items_say : (vars : ℕ) (is : List Item) → vars ≤ 1048576 → AllByRecursion (IsItemOf vars) is → LinesSay formats.Icnf (map item_text is) (tokens_of is)
+items_say : (vars : ℕ) (is : List Item) → vars ≤ max_var → AllByRecursion (IsItemOf vars) is → LinesSay formats.Icnf (map item_text is) (tokens_of is)
 items_say vars [] high ok = refl
 items_say vars (Clause c ∷ is) high ok =
     let line = clause_line vars c high ok.0 in
@@ -247,11 +248,11 @@ header_is v c sv sc =
     ap (λ xs. (112 ∷ []) ∷ (99 ∷ 110 ∷ 102 ∷ []) ∷ words_from [] xs) (append_assoc (decimal v) (32 ∷ []) (decimal c))
     ∙ ap (λ ws. (112 ∷ []) ∷ (99 ∷ 110 ∷ 102 ∷ []) ∷ ws) (first ∙ ap (λ ws. decimal v ∷ ws) second)
 
-header_counts : (v c : ℕ) → v ≤ 1048576 → c ≤ 4294967295 → header_words formats.Cnf ((112 ∷ []) ∷ (99 ∷ 110 ∷ 102 ∷ []) ∷ decimal v ∷ decimal c ∷ []) ≡ Ok v
+header_counts : (v c : ℕ) → v ≤ max_var → c ≤ 4294967295 → header_words formats.Cnf ((112 ∷ []) ∷ (99 ∷ 110 ∷ 102 ∷ []) ∷ decimal v ∷ decimal c ∷ []) ≡ Ok v
 header_counts v c hv hc =
     let a = number_decimal v (omega arith) in
     let b = number_decimal c (omega arith) in
-    let fv : nat_lt 1048576 v ≡ false = le-ltb 1048576 v hv in
+    let fv : nat_lt max_var v ≡ false = le-ltb max_var v hv in
     let fc : nat_lt 4294967295 c ≡ false = le-ltb 4294967295 c hc in
     rw (a, b, fv, fc) refl
 
@@ -269,18 +270,18 @@ plain_word (x ∷ w) h =
 plain_header : (v c : ℕ) → v < 2 ^ 64 → c < 2 ^ 64 → IsPlain (cnf_header v c)
 plain_header v c sv sc = plain-append ((decimal v) ++ 32 ∷ []) (decimal c) (plain-append (decimal v) (32 ∷ []) (plain_word (decimal v) (digits_in_word (decimal v) (digits_decimal own v sv))) refl) (plain_word (decimal c) (digits_in_word (decimal c) (digits_decimal own c sc)))
 
-plain_clause : (vars : ℕ) (c : List ℕ) → vars ≤ 1048576 → AllByRecursion (IsLiteralOf vars) c → IsPlain (clause_text c)
+plain_clause : (vars : ℕ) (c : List ℕ) → vars ≤ max_var → AllByRecursion (IsLiteralOf vars) c → IsPlain (clause_text c)
 plain_clause vars [] high ok = refl
 plain_clause vars (l ∷ ls) high ok =
     let s = spelled l ok.0.0 (omega (arith, ok.0.1)) in
     let e = append_assoc (literal_text l ++ 32 ∷ []) (flat_map (λ m. literal_text m ++ 32 ∷ []) ls) (48 ∷ []) in
     rw e (plain-append (literal_text l ++ 32 ∷ []) (clause_text ls) (plain-append (literal_text l) (32 ∷ []) (plain_word (literal_text l) s.word) refl) (plain_clause vars ls high ok.1))
 
-plain_clauses : (vars : ℕ) (cs : List (List ℕ)) → vars ≤ 1048576 → AllByRecursion (IsItemOf vars) (map Clause cs) → AllByRecursion IsPlain (map clause_text cs)
+plain_clauses : (vars : ℕ) (cs : List (List ℕ)) → vars ≤ max_var → AllByRecursion (IsItemOf vars) (map Clause cs) → AllByRecursion IsPlain (map clause_text cs)
 plain_clauses vars [] high ok = tt
 plain_clauses vars (c ∷ cs) high ok = (plain_clause vars c high ok.0, plain_clauses vars cs high ok.1)
 
-plain_items : (vars : ℕ) (is : List Item) → vars ≤ 1048576 → AllByRecursion (IsItemOf vars) is → AllByRecursion IsPlain (map item_text is)
+plain_items : (vars : ℕ) (is : List Item) → vars ≤ max_var → AllByRecursion (IsItemOf vars) is → AllByRecursion IsPlain (map item_text is)
 plain_items vars [] high ok = tt
 plain_items vars (Clause c ∷ is) high ok = (plain_clause vars c high ok.0, plain_items vars is high ok.1)
 plain_items vars (Ask c ∷ is) high ok = (plain_clause vars c high ok.0.0, plain_items vars is high ok.1)

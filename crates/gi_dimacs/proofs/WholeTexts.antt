@@ -1,18 +1,17 @@
 -- The machine reads what the lines say.
-use Rattle.std.proofs.Common.{◌≡◌, ℕ, suc, ◌+◌, List, [], ◌∷◌, ◌++◌, length, Bool, true, false, ◌&&◌, ◌||◌, not, cond, ◌⊎◌, inl, inr, Result, Ok, Err, refl, ap, sym, ◌∙◌, append_assoc, arith, subst}
+use Rattle.std.proofs.Common.{◌≡◌, ℕ, ◌+◌, List, [], ◌∷◌, ◌++◌, length, Bool, true, false, ◌&&◌, cond, Result, Ok, Err, refl, ap, sym, ◌∙◌, append_assoc}
 use Rattle.std.specs.Prelude.{◌==◌}
 use Rattle.std.specs.List.{fold, AllByRecursion}
 use Rattle.std.specs.Global.{Global}
 use Rattle.std.proofs.lemmas.List.Sums.{fold-append}
 use Rattle.gi_text.specs.Words.{is_white, words_from, words_of}
-use Rattle.gi_dimacs.specs.Lines.{lines_of, text_of}
+use Rattle.gi_dimacs.specs.Lines.{text_of}
 use Rattle.gi_dimacs.specs.declared.fault.CnfCode.{CnfCode}
 use Rattle.gi_dimacs.specs.declared.fault.CnfCode.TheVariants.{Header, Unterminated}
 use Rattle.gi_dimacs.specs.declared.fault.CnfFault.{CnfFault}
 use Rattle.gi_dimacs.specs.declared.words.Taken.{Taken}
 use Rattle.gi_dimacs.specs.declared.content.Format.{Format}
 use Rattle.gi_dimacs.specs.declared.content.Format.TheVariants as formats
-use Rattle.gi_dimacs.specs.declared.head.Head.{Head}
 use Rattle.gi_dimacs.specs.declared.head.Head.TheVariants as heads
 use Rattle.gi_dimacs.specs.declared.machine.Phase.{Phase}
 use Rattle.gi_dimacs.specs.declared.machine.Phase.TheVariants.{Before, Body, Ask, Asked, Ended, Failed}
@@ -21,10 +20,10 @@ use Rattle.gi_dimacs.specs.declared.machine.Spot.TheVariants.{Start, Comment, Fi
 use Rattle.gi_dimacs.specs.declared.machine.Machine.{Machine}
 use Rattle.gi_dimacs.specs.Content.{File, format_of, nothing}
 use Rattle.gi_dimacs.specs.Files.{begin, is_comment, Move, Goes, Ends, Stops, body_line, whole, after_move, read_body, begin_body, head_words, header_words, read_lines, read_file}
-use Rattle.gi_dimacs.specs.Machine.{start, head_step, end_phase, word_ends, word_by_phase, after_head, line_ends, go_inside, inside, is_over, is_start, in_comment, byte_in_line, take_byte, answer_of, answer_now, last_line, answer, run}
+use Rattle.gi_dimacs.specs.Machine.{start, end_phase, word_ends, after_head, line_ends, go_inside, inside, is_over, is_start, in_comment, byte_in_line, take_byte, answer_of, answer_now, answer, run}
 use Rattle.gi_dimacs.proofs.Splitting.{IsPlain, line_of, split}
 use Rattle.gi_dimacs.proofs.InLines.{at, eats, plain_head, over_stays, first_spot, line_from_start}
-use Rattle.gi_dimacs.proofs.Runs.{MoveDone, body_done, head_of, head_ends, head_eats, end_over}
+use Rattle.gi_dimacs.proofs.Runs.{MoveDone, body_done, head_of, head_ends, end_over}
 
 pub run-append : (s : Machine) (xs ys : List ℕ) → run s (xs ++ ys) ≡ run (run s xs) ys
 unfolding run

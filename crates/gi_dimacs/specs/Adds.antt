@@ -6,11 +6,13 @@ use Rattle.gi_dimacs.specs.declared.fault.CnfCode.TheVariants.{Limit}
 use Rattle.gi_dimacs.specs.declared.words.Taken.{Taken}
 use Rattle.gi_dimacs.specs.declared.words.Asking.{Asking}
 use Rattle.gi_dimacs.specs.declared.words.Asking.TheVariants.{Goes, Ends, Stops}
-use Rattle.gi_dimacs.specs.Files.{asked, with_assumption, ask_number}
+use Rattle.gi_dimacs.specs.Files.{asked, with_assumption}
+use Rattle.gi_lit.specs.Literals.{max_var}
+use Rattle.gi_dimacs.specs.Limits.{most_assumptions}
 
 -- a number, and that it is within the variables
 abbrev pub Is : Result ℤ CnfCode → Result ℤ CnfCode → Type 0
-Is (Ok z) read = (read ≡ Ok z) × (size_of z ≤ 1048576)
+Is (Ok z) read = (read ≡ Ok z) × (size_of z ≤ max_var)
 Is (Err c) read = read ≡ Err c
 
 -- a word of the clauses
@@ -20,6 +22,6 @@ Gives (Some c) read old new = (read ≡ Err c) × (new ≡ old)
 
 -- a word of an ask: a literal, the 0, or a bad word
 abbrev pub GivesAsk : Asking → Result ℤ CnfCode → Taken → Taken → Type 0
-GivesAsk Goes read old new = (z : ℤ) × (read ≡ Ok z) × (z ≢ pos 0) × (length old.begun < 1048576) × (new ≡ with_assumption old z)
+GivesAsk Goes read old new = (z : ℤ) × (read ≡ Ok z) × (z ≢ pos 0) × (length old.begun < most_assumptions) × (new ≡ with_assumption old z)
 GivesAsk Ends read old new = (read ≡ Ok (pos 0)) × (new ≡ asked old)
-GivesAsk (Stops c) read old new = (new ≡ old) × ((read ≡ Err c) ⊎ ((z : ℤ) × (read ≡ Ok z) × (z ≢ pos 0) × (1048576 ≤ length old.begun) × (c ≡ Limit)))
+GivesAsk (Stops c) read old new = (new ≡ old) × ((read ≡ Err c) ⊎ ((z : ℤ) × (read ≡ Ok z) × (z ≢ pos 0) × (most_assumptions ≤ length old.begun) × (c ≡ Limit)))

@@ -1,8 +1,8 @@
 -- Files of both formats, line by line.
-use Rattle.std.specs.Prelude.{ℕ, zero, suc, ◌+◌, max, nat_le, nat_lt, ℤ, pos, negsuc, Bool, true, false, ◌==◌, ◌&&◌, ◌||◌, List, [], ◌∷◌, ◌++◌, length, Option, Some, None, Result, Ok, Err, if◌then◌else◌}
+use Rattle.std.specs.Prelude.{ℕ, zero, suc, ◌+◌, max, nat_le, nat_lt, ℤ, pos, negsuc, Bool, false, ◌==◌, ◌&&◌, ◌||◌, List, [], ◌∷◌, ◌++◌, length, Option, Some, None, Result, Ok, Err, if◌then◌else◌}
 use Rattle.std.specs.Str.{bytes_eq}
 use Rattle.std.specs.Char.{is_ascii_digit}
-use Rattle.gi_lit.specs.Literals.{literal_of}
+use Rattle.gi_lit.specs.Literals.{literal_of, max_var}
 use Rattle.gi_text.specs.Words.{words_of}
 use Rattle.gi_text.specs.Numbers.{number_of, size_of}
 use Rattle.gi_dimacs.specs.declared.fault.CnfCode.{CnfCode}
@@ -14,6 +14,7 @@ use Rattle.gi_dimacs.specs.declared.content.Format.TheVariants as formats
 use Rattle.gi_dimacs.specs.declared.words.Taken.{Taken}
 use Rattle.gi_dimacs.specs.Content.{nothing, format_of, with_item, File}
 use Rattle.gi_dimacs.specs.Lines.{lines_of}
+use Rattle.gi_dimacs.specs.Limits.{most_assumptions}
 
 -- nothing but a header's variables
 abbrev pub begin : Format → ℕ → Taken
@@ -41,7 +42,7 @@ begins_number (b ∷ bs) = (b == 45) || is_ascii_digit b
 
 abbrev pub within_variables : Option ℤ → Result ℤ CnfCode
 within_variables None = Err Number
-within_variables (Some z) = if nat_lt 1048576 (size_of z) then Err Limit else Ok z
+within_variables (Some z) = if nat_lt max_var (size_of z) then Err Limit else Ok z
 
 -- the number that a word of a list is
 unfoldable pub number_in : List ℕ → Result ℤ CnfCode
@@ -79,8 +80,8 @@ ask_ends t (w ∷ ws) = Err Word
 abbrev pub ask_number : Taken → Result ℤ CnfCode → List (List ℕ) → (Taken → Result Taken CnfCode) → Result Taken CnfCode
 ask_number t (Err c) ws next = Err c
 ask_number t (Ok (pos zero)) ws next = ask_ends t ws
-ask_number t (Ok (pos (suc n))) ws next = if nat_le 1048576 (length t.begun) then Err Limit else next (with_assumption t (pos (suc n)))
-ask_number t (Ok (negsuc n)) ws next = if nat_le 1048576 (length t.begun) then Err Limit else next (with_assumption t (negsuc n))
+ask_number t (Ok (pos (suc n))) ws next = if nat_le most_assumptions (length t.begun) then Err Limit else next (with_assumption t (pos (suc n)))
+ask_number t (Ok (negsuc n)) ws next = if nat_le most_assumptions (length t.begun) then Err Limit else next (with_assumption t (negsuc n))
 
 -- the words of an ask behind its `a`
 unfoldable pub ask_words : Taken → List (List ℕ) → Result Taken CnfCode
@@ -132,7 +133,7 @@ count_at word = from_zero (number_of word)
 
 -- the counts of variables and clauses
 abbrev pub check_counts : Option ℕ → Option ℕ → Result ℕ CnfCode
-check_counts (Some v) (Some c) = if nat_lt 1048576 v || nat_lt 4294967295 c then Err Limit else Ok v
+check_counts (Some v) (Some c) = if nat_lt max_var v || nat_lt 4294967295 c then Err Limit else Ok v
 check_counts (Some v) None = Err Header
 check_counts None c = Err Header
 

@@ -1,6 +1,6 @@
 -- The machine over bytes that the code is. The formats are in `Files` and `Relation`, and the readers' contracts say
 -- that this machine reads them.
-use Rattle.std.specs.Prelude.{ℕ, zero, suc, ◌+◌, min, nat_le, nat_lt, ℤ, pos, negsuc, Bool, true, false, ◌==◌, ◌&&◌, ◌||◌, not, List, [], ◌∷◌, ◌++◌, length, Option, Some, None, Result, Ok, Err, if◌then◌else◌}
+use Rattle.std.specs.Prelude.{◌≡◌, ℕ, zero, suc, ◌+◌, ◌-◌, ◌^◌, ◌<◌, ◌⊎◌, min, nat_le, nat_lt, ℤ, pos, negsuc, Bool, true, false, ◌==◌, ◌&&◌, ◌||◌, not, List, [], ◌∷◌, ◌++◌, length, Option, Some, None, Result, Ok, Err, if◌then◌else◌}
 use Rattle.std.specs.Str.{bytes_eq}
 use Rattle.std.specs.List.{fold}
 use Rattle.std.specs.Global.{Global}
@@ -20,12 +20,14 @@ use Rattle.gi_dimacs.specs.declared.machine.Spot.TheVariants.{Start, Comment, Fi
 use Rattle.gi_dimacs.specs.declared.machine.Machine.{Machine}
 use Rattle.gi_dimacs.specs.Content.{format_of, File}
 use Rattle.gi_dimacs.specs.Files.{begin, asked, with_assumption, count_at, number_in, add_word, is_end, is_ask, whole}
+use Rattle.gi_lit.specs.Literals.{max_var}
+use Rattle.gi_dimacs.specs.Limits.{most_assumptions}
 
 abbrev pub start : Global → Format → Machine
 start alloc format = record { alloc = alloc; line = 1; phase = Before heads.Nothing; spot = Start; word = []; taken = begin format 0 }
 
 abbrev pub vars_head : Option ℕ → Head
-vars_head (Some v) = heads.Vars (min v 1048577)
+vars_head (Some v) = heads.Vars (min v (max_var + 1))
 vars_head None = heads.Bad
 
 abbrev pub whole_head : ℕ → Option ℕ → Head
@@ -46,7 +48,7 @@ head_step format (heads.Whole v small) w = heads.Bad
 head_step format heads.Bad w = heads.Bad
 
 abbrev pub head_counts : Head → Result ℕ CnfCode
-head_counts (heads.Whole v small) = if nat_lt 1048576 v || not small then Err Limit else Ok v
+head_counts (heads.Whole v small) = if nat_lt max_var v || not small then Err Limit else Ok v
 head_counts heads.Nothing = Err Header
 head_counts heads.P = Err Header
 head_counts heads.Cnf = Err Header
@@ -79,8 +81,8 @@ body_word s = if is_first s.spot && is_end s.word then after_word s (end_phase s
 abbrev pub after_ask : Result ℤ CnfCode → Machine → Machine
 after_ask (Err c) s = after_word s (Failed c) s.taken
 after_ask (Ok (pos zero)) s = after_word s Asked (asked s.taken)
-after_ask (Ok (pos (suc n))) s = if nat_le 1048576 (length s.taken.begun) then after_word s (Failed Limit) s.taken else after_word s Ask (with_assumption s.taken (pos (suc n)))
-after_ask (Ok (negsuc n)) s = if nat_le 1048576 (length s.taken.begun) then after_word s (Failed Limit) s.taken else after_word s Ask (with_assumption s.taken (negsuc n))
+after_ask (Ok (pos (suc n))) s = if nat_le most_assumptions (length s.taken.begun) then after_word s (Failed Limit) s.taken else after_word s Ask (with_assumption s.taken (pos (suc n)))
+after_ask (Ok (negsuc n)) s = if nat_le most_assumptions (length s.taken.begun) then after_word s (Failed Limit) s.taken else after_word s Ask (with_assumption s.taken (negsuc n))
 
 abbrev pub word_by_phase : Phase → Machine → Machine
 word_by_phase (Before h) s = after_word s (Before (head_step (format_of s.taken.content) h s.word)) s.taken
@@ -158,6 +160,10 @@ take_byte s b = if is_over s.phase then s else if b == 10 then line_ends (word_e
 -- the input has ended
 abbrev pub last_line : Machine → Machine
 last_line s = if is_start s.spot then s else line_ends (word_ends s)
+
+-- at the end of the input memory may be wanting for a word that has not ended alone, and a number behind the last line that has one
+abbrev pub LacksMemory : Machine → Type 0
+LacksMemory s = (0 < length s.word) ⊎ (s.line ≡ 2 ^ 64 - 1)
 
 abbrev pub answer_of : Phase → ℕ → Taken → Result File CnfFault
 answer_of (Before h) line t = Err (record { line = line; code = Header })

@@ -1,6 +1,6 @@
 -- The formats as relations between a value and all bytes of a file.
-use Rattle.std.specs.Prelude.{◌≡◌, ℕ, ◌≤◌, ◌/◌, ◌-◌, ◌%◌, ◌==◌, max, ℤ, pos, negsuc, Bool, true, false, List, [], ◌∷◌, ◌++◌, length, drop, map, Some, Ok, ◌⊎◌, if◌then◌else◌}
-use Rattle.std.specs.List.{flat_map, AllByRecursion}
+use Rattle.std.specs.Prelude.{◌≡◌, ℕ, ◌≤◌, ◌/◌, ◌-◌, ◌%◌, ◌==◌, max, ℤ, pos, negsuc, Bool, true, false, List, [], ◌∷◌, ◌++◌, length, drop, Some, Ok, ◌⊎◌, if◌then◌else◌}
+use Rattle.std.specs.List.{AllByRecursion}
 use Rattle.gi_text.specs.Words.{words_of}
 use Rattle.gi_text.specs.Numbers as numbers
 use Rattle.gi_dimacs.specs.declared.cnf.Cnf.{Cnf}
@@ -12,6 +12,8 @@ use Rattle.gi_dimacs.specs.Lines.{lines_of}
 use Rattle.gi_dimacs.specs.Content.{File, format_of, items_of, clauses_in, literals_in, greatest_of}
 use Rattle.gi_dimacs.specs.Files.{is_comment, is_end, is_ask, header_words}
 use Rattle.gi_dimacs.specs.Texts.{cnf_file, icnf_file}
+use Rattle.gi_lit.specs.Literals.{max_var}
+use Rattle.gi_dimacs.specs.Limits.{most_assumptions}
 
 -- the words of a line; a comment has none
 unfoldable pub line_words : List ℕ → List (List ℕ)
@@ -73,7 +75,7 @@ tokens_of (Ask lits ∷ items) = Asks lits ∷ tokens_of items
 -- literals of variables from 1 on, and an ask's within the limit
 abbrev pub IsProper : Item → Type 0
 IsProper (Clause c) = AllByRecursion (λ l. 1 ≤ l / 2) c
-IsProper (Ask lits) = AllByRecursion (λ l. 1 ≤ l / 2) lits × (length lits ≤ 1048576)
+IsProper (Ask lits) = AllByRecursion (λ l. 1 ≤ l / 2) lits × (length lits ≤ most_assumptions)
 
 pub record IsFile (f : File) (bytes : List ℕ) : Type 0 where
   pub front : List (List ℕ)
@@ -93,7 +95,7 @@ pub record IsFile (f : File) (bytes : List ℕ) : Type 0 where
   pub vars : f.vars ≡ max declared (greatest_of (items_of f.content))
   -- within the limits
   pub proper : AllByRecursion IsProper (items_of f.content)
-  pub small : greatest_of (items_of f.content) ≤ 1048576
+  pub small : greatest_of (items_of f.content) ≤ max_var
   pub clauses : clauses_in (items_of f.content) ≤ 4194304
   pub literals : literals_in (items_of f.content) ≤ 67108864
 

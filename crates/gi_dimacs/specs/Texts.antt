@@ -9,6 +9,8 @@ use Rattle.gi_dimacs.specs.declared.content.Content.{Content}
 use Rattle.gi_dimacs.specs.declared.content.Content.TheVariants.{Clauses, Items}
 use Rattle.gi_dimacs.specs.Literals.{literal_text}
 use Rattle.gi_dimacs.specs.Content.{File, items_of, clauses_in, literals_in, greatest_of}
+use Rattle.gi_lit.specs.Literals.{max_var}
+use Rattle.gi_dimacs.specs.Limits.{most_assumptions}
 
 -- a clause: each literal with a space behind it, and a 0
 abbrev pub clause_text : List ℕ → List ℕ
@@ -38,7 +40,7 @@ IsLiteralOf vars l = (1 ≤ l / 2) × (l / 2 ≤ vars)
 
 abbrev pub IsItemOf : ℕ → Item → Type 0
 IsItemOf vars (Clause c) = AllByRecursion (IsLiteralOf vars) c
-IsItemOf vars (Ask lits) = AllByRecursion (IsLiteralOf vars) lits × (length lits ≤ 1048576)
+IsItemOf vars (Ask lits) = AllByRecursion (IsLiteralOf vars) lits × (length lits ≤ most_assumptions)
 
 -- in iCNF the variables are those that are used
 abbrev pub HasVars : ℕ → Content → Type 0
@@ -47,7 +49,7 @@ HasVars vars (Items items) = vars ≡ greatest_of items
 
 -- a value that some bytes have
 pub record IsGoodFile (f : File) : Type 0 where
-  pub vars : f.vars ≤ 1048576
+  pub vars : f.vars ≤ max_var
   pub items : AllByRecursion (IsItemOf f.vars) (items_of f.content)
   pub used : HasVars f.vars f.content
   pub clauses : clauses_in (items_of f.content) ≤ 4194304

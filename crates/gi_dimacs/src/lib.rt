@@ -10,7 +10,6 @@ mod laws;
 mod machine;
 mod reader;
 mod readers;
-mod word;
 mod words;
 mod writing;
 

@@ -1,18 +1,18 @@
 // The machine over bytes.
-ghost use Rattle.std.specs.Prelude.{◌≡◌, ◌+◌, [], OnOk};
+ghost use Rattle.std.specs.Prelude.{◌≡◌, ◌+◌, ◌-◌, ◌^◌, ◌<◌, [], length, OnOk, OnErr};
 ghost use Rattle.gi_dimacs.specs.declared.machine.Spot.TheVariants as spots;
 ghost use Rattle.gi_dimacs.specs.declared.machine.Phase.TheVariants as phases;
 ghost use Rattle.gi_text.specs.Words.{is_white};
 ghost use Rattle.gi_dimacs.specs.Content.{format_of};
 ghost use Rattle.gi_dimacs.specs.Files.{number_in, is_ask, is_end};
-ghost use Rattle.gi_dimacs.specs.Machine.{start, head_counts, body_word, after_ask, ask_phase, after_word, word_ends, after_head, line_ends, take_byte, inside, end_phase, is_first, is_start, in_comment, is_over, last_line};
+ghost use Rattle.gi_dimacs.specs.Machine.{start, head_counts, body_word, after_ask, ask_phase, after_word, word_ends, after_head, line_ends, take_byte, inside, end_phase, is_first, is_start, in_comment, is_over, last_line, LacksMemory};
 
 use crate::content::{Format, format_of};
 use crate::fault::CnfCode;
 use crate::head::{Head, check_head, read_head};
-use crate::word::Word;
 use crate::words::{Asking, Taken, begin, word_of_ask, word_of_body};
 use gi_lit::Lits;
+use gi_text::Bytes;
 use std::alloc::{AllocError, Global};
 
 #[derive(Clone, Copy, Debug, PartialEq, Eq)]
@@ -50,8 +50,8 @@ pub struct Machine {
     pub line: u64,
     pub phase: Phase,
     pub spot: Spot,
-    /// The word that is read.
-    pub word: Word,
+    /// The word that is read. One buffer serves for all words of a file.
+    pub word: Bytes,
     pub taken: Taken,
 }
 
@@ -63,7 +63,7 @@ pub fn new_machine(alloc: Global, format: Format) -> Machine
         line: 1,
         phase: Phase::Before(Head::Nothing),
         spot: Spot::Start,
-        word: Word::new(alloc),
+        word: Bytes::new(alloc),
         taken: begin(alloc, format, 0),
     }
 }
@@ -151,10 +151,9 @@ fn end_of(begun: &Lits) -> Phase
 fn ask_of(begun: &Lits) -> Phase
     ensures { result ≡ ask_phase begun.now }
 {
-    if begun.as_slice().is_empty() {
-        Phase::Ask
-    } else {
-        Phase::Failed(CnfCode::Unterminated)
+    match begun.as_slice() {
+        [] => Phase::Ask,
+        _ => Phase::Failed(CnfCode::Unterminated),
     }
 }
 
@@ -213,7 +212,8 @@ fn is_white_byte(b: u8) -> bool
 // A word has ended, if one was begun.
 #[tactic(auto, unfolding(crate::specs::Machine::word_ends))]
 fn end_word(m: &mut Machine) -> Result<(), AllocError>
-    ensures { OnOk result (m.new ≡ word_ends m.old) }
+    ensures ok { OnOk result (m.new ≡ word_ends m.old) }
+    ensures err { OnErr result (0 < length m.old.word) }
 {
     if m.word.as_slice().is_empty() {
         return Ok(());
@@ -239,7 +239,8 @@ fn end_word(m: &mut Machine) -> Result<(), AllocError>
 // A line has ended.
 #[tactic(auto, unfolding(crate::specs::Machine::line_ends))]
 fn end_line(m: &mut Machine) -> Result<(), AllocError>
-    ensures { OnOk result (m.new ≡ line_ends m.old) }
+    ensures ok { OnOk result (m.new ≡ line_ends m.old) }
+    ensures err { OnErr result (m.old.line ≡ 2 ^ 64 - 1) }
 {
     match m.phase {
         Phase::Before(Head::Nothing) => next_line(m),
@@ -260,7 +261,8 @@ fn end_line(m: &mut Machine) -> Result<(), AllocError>
 
 // The header's line has ended.
 fn end_head(m: &mut Machine, head: Head) -> Result<(), AllocError>
-    ensures { OnOk result (m.new ≡ after_head (head_counts head) m.old) }
+    ensures ok { OnOk result (m.new ≡ after_head (head_counts head) m.old) }
+    ensures err { OnErr result (m.old.line ≡ 2 ^ 64 - 1) }
 {
     match check_head(head) {
         Ok(vars) => {
@@ -275,9 +277,10 @@ fn end_head(m: &mut Machine, head: Head) -> Result<(), AllocError>
     }
 }
 
-// The next line begins. There is no number for more lines than memory could hold.
+// The next line begins. Behind line 2^64 - 1 there is no number for it.
 fn next_line(m: &mut Machine) -> Result<(), AllocError>
-    ensures { OnOk result (m.new ≡ record m.old { line = m.old.line + 1; spot = spots.Start }) }
+    ensures ok { OnOk result (m.new ≡ record m.old { line = m.old.line + 1; spot = spots.Start }) }
+    ensures err { OnErr result (m.old.line ≡ 2 ^ 64 - 1) }
 {
     if m.line == u64::MAX {
         return Err(AllocError);
@@ -327,12 +330,17 @@ fn go_inside(m: &mut Machine)
     }
 }
 
-/// The last line, if it lacks its LF.
+/// The last line, if it lacks its LF. It takes memory only for a word that has not ended.
+#[tactic(auto, unfolding(crate::specs::Machine::word_ends))]
 pub fn end_last(m: &mut Machine) -> Result<(), AllocError>
-    ensures { OnOk result (m.new ≡ last_line m.old) }
+    ensures ok { OnOk result (m.new ≡ last_line m.old) }
+    ensures err { OnErr result (LacksMemory m.old) }
 {
     if is_start(m.spot) {
         return Ok(());
+    }
+    if m.word.as_slice().is_empty() {
+        return end_line(m);
     }
     end_word(m)?;
     end_line(m)

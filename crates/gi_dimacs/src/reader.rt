@@ -1,8 +1,8 @@
 // A reader of pieces, of either format.
-ghost use Rattle.std.specs.Prelude.{◌≡◌, ◌++◌, [], ℕ, List, OnOk, OnErr, true, false};
+ghost use Rattle.std.specs.Prelude.{◌≡◌, ◌≢◌, ◌<◌, ◌++◌, [], ℕ, List, length, OnOk, OnErr, true, false};
 ghost use Rattle.gi_dimacs.specs.declared.content.Format.{Format};
 ghost use Rattle.gi_dimacs.specs.Files.{read_file, whole};
-ghost use Rattle.gi_dimacs.specs.Machine.{run, answer, answer_of};
+ghost use Rattle.gi_dimacs.specs.Machine.{LacksMemory, run, answer, answer_of};
 ghost use Rattle.gi_dimacs.specs.Answers.{Tells};
 ghost use Rattle.gi_dimacs.specs.declared.reader.Outcome.TheVariants as outcomes;
 
@@ -36,7 +36,7 @@ impl Model for Reader {
 }
 
 impl Reader {
-    ghost use Rattle.gi_dimacs.specs.Reader.{HasRead};
+    ghost use Rattle.gi_dimacs.specs.Reader.{HasRead, WantsMemory};
 
     /// A reader that was fed nothing. Takes no memory.
     pub fn new(alloc: Global, format: Format) -> Reader
@@ -54,6 +54,7 @@ impl Reader {
         ensures ok { OnOk result ((format : Format) (bytes : List ℕ) → HasRead format self.old bytes → HasRead format self.new (bytes ++ piece.now)) }
         ensures sound { OnOk result (self.new.broken ≡ self.old.broken) }
         ensures err { OnErr result (self.new.broken ≡ true) }
+        ensures some { OnErr result (0 < length piece.now) }
     {
         match take_all(&mut self.machine, piece) {
             Ok(()) => Ok(()),
@@ -68,6 +69,7 @@ impl Reader {
     pub fn finish(self) -> Outcome
         ensures read { (format : Format) (bytes : List ℕ) → HasRead format self bytes → Tells result (read_file format bytes) }
         ensures broken { self.broken ≡ true → result ≡ outcomes.NoMemory }
+        ensures memory { result ≡ outcomes.NoMemory → WantsMemory self }
     {
         if self.broken {
             return Outcome::NoMemory;
@@ -79,7 +81,8 @@ impl Reader {
 // The next bytes.
 #[tactic(auto, unfolding(crate::specs::Machine::run))]
 fn take_all(machine: &mut Machine, piece: &[u8]) -> Result<(), AllocError>
-    ensures { OnOk result (machine.new ≡ run machine.old piece.now) }
+    ensures ok { OnOk result (machine.new ≡ run machine.old piece.now) }
+    ensures some { OnErr result (0 < length piece.now) }
 {
     for byte in piece {
         take(machine, *byte)?;
@@ -89,7 +92,8 @@ fn take_all(machine: &mut Machine, piece: &[u8]) -> Result<(), AllocError>
 
 // What was read.
 fn answer_of(phase: Phase, line: u64, taken: Taken) -> Outcome
-    ensures { Tells result (answer_of phase line taken) }
+    ensures read { Tells result (answer_of phase line taken) }
+    ensures memory { result ≢ outcomes.NoMemory }
 {
     match phase {
         Phase::Before(_) => fault(line, CnfCode::Header),
@@ -102,7 +106,8 @@ fn answer_of(phase: Phase, line: u64, taken: Taken) -> Outcome
 }
 
 fn file_if_whole(line: u64, taken: Taken) -> Outcome
-    ensures { Tells result (whole taken line) }
+    ensures read { Tells result (whole taken line) }
+    ensures memory { result ≢ outcomes.NoMemory }
 {
     if taken.begun.as_slice().is_empty() {
         file(taken)
@@ -129,7 +134,8 @@ fn fault(line: u64, code: CnfCode) -> Outcome
 // What a machine read, at the end of the input.
 #[tactic(auto, unfolding(crate::specs::Machine::answer))]
 fn read_off(machine: Machine) -> Outcome
-    ensures { Tells result (answer machine) }
+    ensures read { Tells result (answer machine) }
+    ensures memory { result ≡ outcomes.NoMemory → LacksMemory machine }
 {
     let mut machine = machine;
     match end_last(&mut machine) {

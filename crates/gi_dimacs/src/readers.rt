@@ -1,5 +1,5 @@
 // The readers of the two formats.
-ghost use Rattle.std.specs.Prelude.{◌≡◌, ◌++◌, [], ℕ, List, OnOk, OnErr, true, false};
+ghost use Rattle.std.specs.Prelude.{◌≡◌, ◌<◌, ◌++◌, [], ℕ, List, length, OnOk, OnErr, true, false};
 ghost use Rattle.gi_dimacs.specs.declared.content.Format.TheVariants as formats;
 ghost use Rattle.gi_dimacs.specs.Answers.{AnswersCnf, AnswersIcnf};
 ghost use Rattle.gi_dimacs.specs.declared.readers.CnfRead.TheVariants as cnf_fails;
@@ -45,7 +45,7 @@ impl Model for CnfReader {
 }
 
 impl CnfReader {
-    ghost use Rattle.gi_dimacs.specs.Reader.{HasRead};
+    ghost use Rattle.gi_dimacs.specs.Reader.{HasRead, WantsMemory};
 
     /// A reader that was fed nothing. Takes no memory.
     pub fn new(alloc: Global) -> CnfReader
@@ -62,15 +62,18 @@ impl CnfReader {
         ensures ok { OnOk result ((bytes : List ℕ) → HasRead formats.Cnf self.old bytes → HasRead formats.Cnf self.new (bytes ++ piece.now)) }
         ensures sound { OnOk result (self.new.broken ≡ self.old.broken) }
         ensures err { OnErr result (self.new.broken ≡ true) }
+        ensures some { OnErr result (0 < length piece.now) }
     {
         self.reader.feed(piece)
     }
 
     /// The input has ended. The answer is the value of all bytes that were fed, or their first fault.
-    /// `NoMemory` comes where a `feed` answered an error; else it is want of memory here.
+    /// `NoMemory` comes where a `feed` answered an error; else only where the last word has not ended, and memory is
+    /// wanting for it, or where line 2^64 - 1 ends.
     pub fn finish(self) -> CnfRead
         ensures read { (bytes : List ℕ) → HasRead formats.Cnf self bytes → AnswersCnf result bytes }
         ensures broken { self.broken ≡ true → result ≡ cnf_fails.NoMemory }
+        ensures memory { (bytes : List ℕ) → HasRead formats.Cnf self bytes → result ≡ cnf_fails.NoMemory → WantsMemory self }
     {
         match self.reader.finish() {
             Outcome::File {
@@ -103,7 +106,7 @@ impl Model for IcnfReader {
 }
 
 impl IcnfReader {
-    ghost use Rattle.gi_dimacs.specs.Reader.{HasRead};
+    ghost use Rattle.gi_dimacs.specs.Reader.{HasRead, WantsMemory};
 
     /// A reader that was fed nothing. Takes no memory.
     pub fn new(alloc: Global) -> IcnfReader
@@ -120,15 +123,18 @@ impl IcnfReader {
         ensures ok { OnOk result ((bytes : List ℕ) → HasRead formats.Icnf self.old bytes → HasRead formats.Icnf self.new (bytes ++ piece.now)) }
         ensures sound { OnOk result (self.new.broken ≡ self.old.broken) }
         ensures err { OnErr result (self.new.broken ≡ true) }
+        ensures some { OnErr result (0 < length piece.now) }
     {
         self.reader.feed(piece)
     }
 
     /// The input has ended. The answer is the value of all bytes that were fed, or their first fault.
-    /// `NoMemory` comes where a `feed` answered an error; else it is want of memory here.
+    /// `NoMemory` comes where a `feed` answered an error; else only where the last word has not ended, and memory is
+    /// wanting for it, or where line 2^64 - 1 ends.
     pub fn finish(self) -> IcnfRead
         ensures read { (bytes : List ℕ) → HasRead formats.Icnf self bytes → AnswersIcnf result bytes }
         ensures broken { self.broken ≡ true → result ≡ icnf_fails.NoMemory }
+        ensures memory { (bytes : List ℕ) → HasRead formats.Icnf self bytes → result ≡ icnf_fails.NoMemory → WantsMemory self }
     {
         match self.reader.finish() {
             Outcome::File {

@@ -1,9 +1,9 @@
+// Rows from outside, and each call once with ample memory.
 use crate::{
     CnfCode, CnfFault, CnfRead, CnfReader, IcnfRead, IcnfReader, Item, Items, write_cnf, write_icnf,
 };
 use gi_lit::{Lit, Lits};
 use std::alloc::Global;
-use std::test::Fail;
 
 // A format, a text, and what it is read as: its text again, or the code and the line of its fault. `/` stands for
 // LF, `~` for a tab and `^` for CR.
@@ -44,12 +44,12 @@ cnf|p cnf 1 1x|Header 1
 cnf|p cnf +1 1|Header 1
 cnf|p cnf -0 1|Header 1
 cnf|p cnf 007 0003|p cnf 7 0/
-cnf|p cnf 1048576 0|p cnf 1048576 0/
-cnf|p cnf 1048577 0|Limit 1
+cnf|p cnf 16777216 0|p cnf 16777216 0/
+cnf|p cnf 16777217 0|Limit 1
 cnf|p cnf 99999999999999999999 0|Limit 1
-cnf|p cnf 1048576 4294967295|p cnf 1048576 0/
+cnf|p cnf 16777216 4294967295|p cnf 16777216 0/
 cnf|p cnf 1 4294967296|Limit 1
-cnf|p cnf 1048577 x|Header 1
+cnf|p cnf 16777217 x|Header 1
 cnf|p cnf -99999999999 1|Header 1
 cnf|p inccnf|Header 1
 cnf|%/p cnf 1 1|Header 1
@@ -68,13 +68,13 @@ cnf|p cnf 1 1/--1 0|Number 2
 cnf|p cnf 1 1/1 00|p cnf 1 1/1 0/
 cnf|p cnf 1 1/01 -001 0|p cnf 1 1/1 -1 0/
 cnf|p cnf 1 1/1 -00|Number 2
-cnf|p cnf 1 1/1048576 0|p cnf 1048576 1/1048576 0/
-cnf|p cnf 1 1/1048577 0|Limit 2
-cnf|p cnf 1 1/-1048576 0|p cnf 1048576 1/-1048576 0/
-cnf|p cnf 1 1/-1048577 0|Limit 2
+cnf|p cnf 1 1/16777216 0|p cnf 16777216 1/16777216 0/
+cnf|p cnf 1 1/16777217 0|Limit 2
+cnf|p cnf 1 1/-16777216 0|p cnf 16777216 1/-16777216 0/
+cnf|p cnf 1 1/-16777217 0|Limit 2
 cnf|p cnf 1 1/4294967296 0|Limit 2
-cnf|p cnf 1 1/x 1048577 0|Word 2
-cnf|p cnf 1 1/1048577 x 0|Limit 2
+cnf|p cnf 1 1/x 16777217 0|Word 2
+cnf|p cnf 1 1/16777217 x 0|Limit 2
 cnf|p cnf 1 1/1 0/x/1x|Word 3
 cnf|p cnf 1 1/1 0/c/x|Word 4
 cnf|c/c/p cnf 1 1/1x|Number 4
@@ -103,8 +103,8 @@ icnf|p inccnf/a 1 0 0|Word 2
 icnf|p inccnf/a % 0|Word 2
 icnf|p inccnf/a 1 +2 0|Word 2
 icnf|p inccnf/a 1x 0|Number 2
-icnf|p inccnf/a 1048577 0|Limit 2
-icnf|p inccnf/a 1048576 0|p inccnf/a 1048576 0/
+icnf|p inccnf/a 16777217 0|Limit 2
+icnf|p inccnf/a 16777216 0|p inccnf/a 16777216 0/
 icnf|p inccnf/a 1 0/%/a 2 0|p inccnf/a 1 0/
 icnf|p inccnf/1/%|Unterminated 3
 icnf|p inccnf/1|Unterminated 3
@@ -115,134 +115,214 @@ icnf|p inccnf/0/a -5 2 -5 0|p inccnf/0/a -5 2 -5 0/
 icnf|p inccnf/c a/a 00|p inccnf/a 0/
 icnf|p inccnf/1 0 2/3 0|p inccnf/1 0/2 3 0/";
 
-// The bytes that a cell of the table stands for.
-fn bytes_of(alloc: Global, cell: &str) -> Result<Vec<u8>, Fail> {
+// The byte that a character of a cell stands for.
+fn byte_of(b: u8) -> u8 {
+    match b {
+        b'/' => b'\n',
+        b'~' => b'\t',
+        b'^' => b'\r',
+        other => other,
+    }
+}
+
+// The bytes that a cell stands for.
+fn bytes_of(alloc: Global, cell: &str) -> Option<Vec<u8>> {
     let mut bytes = Vec::new(alloc);
     for b in cell.as_bytes() {
-        bytes.push(match *b {
-            b'/' => b'\n',
-            b'~' => b'\t',
-            b'^' => b'\r',
-            other => other,
-        })?;
+        match bytes.push(byte_of(*b)) {
+            Ok(()) => {}
+            Err(_) => return None,
+        }
     }
-    Ok(bytes)
+    Some(bytes)
 }
 
-fn said(alloc: Global, fault: CnfFault) -> Result<Vec<u8>, Fail> {
-    let text = format!(in alloc; "{:?} {}", fault.code, fault.line)?;
-    Ok(Vec::from_slice(alloc, text.as_bytes())?)
+fn stands_for(cell: &str, bytes: &[u8]) -> bool {
+    let cell = cell.as_bytes();
+    cell.len() == bytes.len() && cell.iter().zip(bytes).all(|(c, b)| byte_of(*c) == *b)
 }
 
-// What a text is read as, in pieces of so many bytes.
-fn read_cnf(alloc: Global, text: &[u8], size: usize) -> Result<Vec<u8>, Fail> {
+fn code_name(code: CnfCode) -> &'static str {
+    match code {
+        CnfCode::Header => "Header ",
+        CnfCode::Word => "Word ",
+        CnfCode::Number => "Number ",
+        CnfCode::Limit => "Limit ",
+        CnfCode::Unterminated => "Unterminated ",
+    }
+}
+
+fn is_fault(fault: CnfFault, want: &str) -> bool {
+    match want.strip_prefix(code_name(fault.code)) {
+        Some(line) => line.parse::<u64>() == Ok(fault.line),
+        None => false,
+    }
+}
+
+fn cnf_is(alloc: Global, read: CnfRead, want: &str) -> bool {
+    match read {
+        CnfRead::Cnf(cnf) => match write_cnf(alloc, &cnf) {
+            Ok(text) => stands_for(want, text.as_slice()),
+            Err(_) => false,
+        },
+        CnfRead::Fault(fault) => is_fault(fault, want),
+        CnfRead::NoMemory => false,
+    }
+}
+
+fn icnf_is(alloc: Global, read: IcnfRead, want: &str) -> bool {
+    match read {
+        IcnfRead::Icnf(icnf) => match write_icnf(alloc, &icnf) {
+            Ok(text) => stands_for(want, text.as_slice()),
+            Err(_) => false,
+        },
+        IcnfRead::Fault(fault) => is_fault(fault, want),
+        IcnfRead::NoMemory => false,
+    }
+}
+
+// Whether a text in pieces of so many bytes is read as this.
+fn reads_cnf(alloc: Global, text: &[u8], size: usize, want: &str) -> bool {
     let mut reader = CnfReader::new(alloc);
     for piece in text.chunks(size.max(1)) {
-        reader.feed(piece)?;
+        if reader.feed(piece).is_err() {
+            return false;
+        }
     }
-    match reader.finish() {
-        CnfRead::Cnf(cnf) => Ok(Vec::from_slice(alloc, write_cnf(alloc, &cnf)?.as_slice())?),
-        CnfRead::Fault(fault) => said(alloc, fault),
-        CnfRead::NoMemory => Err(Fail::from("no memory")),
-    }
+    cnf_is(alloc, reader.finish(), want)
 }
 
-fn read_icnf(alloc: Global, text: &[u8], size: usize) -> Result<Vec<u8>, Fail> {
+fn reads_icnf(alloc: Global, text: &[u8], size: usize, want: &str) -> bool {
     let mut reader = IcnfReader::new(alloc);
     for piece in text.chunks(size.max(1)) {
-        reader.feed(piece)?;
+        if reader.feed(piece).is_err() {
+            return false;
+        }
     }
-    match reader.finish() {
-        IcnfRead::Icnf(icnf) => Ok(Vec::from_slice(alloc, write_icnf(alloc, &icnf)?.as_slice())?),
-        IcnfRead::Fault(fault) => said(alloc, fault),
-        IcnfRead::NoMemory => Err(Fail::from("no memory")),
+    icnf_is(alloc, reader.finish(), want)
+}
+
+fn reads(alloc: Global, format: &str, text: &[u8], want: &str) -> bool {
+    for size in [1, 3, 1000] {
+        let right = if format == "cnf" {
+            reads_cnf(alloc, text, size, want)
+        } else {
+            reads_icnf(alloc, text, size, want)
+        };
+        if !right {
+            return false;
+        }
+    }
+    true
+}
+
+fn row_holds(alloc: Global, row: &str) -> bool {
+    let Some((format, cells)) = row.split_once('|') else {
+        return false;
+    };
+    let Some((text, want)) = cells.split_once('|') else {
+        return false;
+    };
+    match bytes_of(alloc, text) {
+        Some(bytes) => reads(alloc, format, bytes.as_slice(), want),
+        None => false,
     }
 }
 
 #[test]
-fn reads_the_table(rt: HostRuntime) -> Result<(), Fail> {
-    let alloc = rt.alloc();
+fn reads_the_table(rt: HostRuntime) {
     for row in TABLE.split('\n') {
-        let mut cells = row.split('|');
-        let format = cells.next().unwrap_or("");
-        let text = bytes_of(alloc, cells.next().unwrap_or(""))?;
-        let cell = cells.next().unwrap_or("");
-        let is_fault = cell
-            .as_bytes()
-            .first()
-            .map_or(false, |b| b.is_ascii_uppercase());
-        let want = if is_fault {
-            Vec::from_slice(alloc, cell.as_bytes())?
-        } else {
-            bytes_of(alloc, cell)?
-        };
-        for size in [1, 3, 1000] {
-            let got = if format == "cnf" {
-                read_cnf(alloc, text.as_slice(), size)?
-            } else {
-                read_icnf(alloc, text.as_slice(), size)?
-            };
-            assert_eq!(rt;
-                got.as_slice(),
-                want.as_slice(),
-                "{row} in pieces of {size}"
-            );
-        }
+        assert!(rt; row_holds(rt.alloc(), row), "{row}");
     }
-    Ok(())
 }
 
 // An ask of so many times 1024 literals and of what stands behind them, at line 2.
-fn long_ask(alloc: Global, pieces: u32, rest: &[u8]) -> Result<IcnfRead, Fail> {
-    let mut reader = IcnfReader::new(alloc);
-    reader.feed(b"p inccnf\na ")?;
-    let mut piece = Vec::new(alloc);
-    for _ in 0..1024 {
-        piece.extend_from_slice(b"7 ")?;
+fn feeds_an_ask(reader: &mut IcnfReader, pieces: u32, rest: &[u8]) -> bool {
+    let literals = b"7 7 7 7 7 7 7 7 7 7 7 7 7 7 7 7 7 7 7 7 7 7 7 7 7 7 7 7 7 7 7 7 ";
+    if reader.feed(b"p inccnf\na ").is_err() {
+        return false;
     }
     for _ in 0..pieces {
-        reader.feed(piece.as_slice())?;
+        if reader.feed(literals).is_err() {
+            return false;
+        }
     }
-    reader.feed(rest)?;
-    Ok(reader.finish())
+    reader.feed(rest).is_ok()
 }
 
-#[test]
-fn an_ask_has_a_limit(rt: HostRuntime) -> Result<(), Fail> {
-    let alloc = rt.alloc();
-    match long_ask(alloc, 1024, b"0")? {
-        IcnfRead::Icnf(icnf) => assert_eq!(rt; (icnf.vars, icnf.items.len()), (7, 1)),
-        _ => panic!(rt; "1,048,576 assumptions are too many"),
+fn takes_an_ask(alloc: Global, rest: &[u8]) -> bool {
+    let mut reader = IcnfReader::new(alloc);
+    if !feeds_an_ask(&mut reader, 32_768, rest) {
+        return false;
     }
-    match long_ask(alloc, 1024, b"7 0")? {
-        IcnfRead::Fault(fault) => assert_eq!(rt; (fault.line, fault.code), (2, CnfCode::Limit)),
-        _ => panic!(rt; "1,048,577 assumptions are taken"),
+    match reader.finish() {
+        IcnfRead::Icnf(icnf) => icnf.vars == 7 && icnf.items.len() == 1,
+        _ => false,
     }
-    Ok(())
 }
 
-#[test]
-fn items_and_faults(rt: HostRuntime) -> Result<(), Fail> {
-    let alloc = rt.alloc();
-    let mut lits = Lits::new(alloc);
-    if let Some(lit) = Lit::from_dimacs(-3) {
-        lits.push(lit)?;
+fn refuses_an_ask(alloc: Global, rest: &[u8]) -> bool {
+    let mut reader = IcnfReader::new(alloc);
+    if !feeds_an_ask(&mut reader, 32_768, rest) {
+        return false;
     }
+    match reader.finish() {
+        IcnfRead::Fault(fault) => is_fault(fault, "Limit 2"),
+        _ => false,
+    }
+}
+
+// 1,048,576 assumptions, and one more.
+#[test]
+fn an_ask_has_a_limit(rt: HostRuntime) {
+    assert!(rt; takes_an_ask(rt.alloc(), b"0"));
+    assert!(rt; refuses_an_ask(rt.alloc(), b"7 0"));
+}
+
+fn has_one(item: Option<&Item>) -> bool {
+    match item {
+        Some(Item::Ask(lits)) => lits.len() == 1,
+        _ => false,
+    }
+}
+
+fn keeps_items(alloc: Global) -> bool {
     let mut items = Items::new(alloc);
-    assert!(rt; items.is_empty());
-    items.push(Item::Clause(lits.copy()?))?;
-    items.push(Item::Ask(lits))?;
-    assert_eq!(rt; items.len(), 2);
-    match items.get(1) {
-        Some(Item::Ask(lits)) => assert_eq!(rt; lits.len(), 1),
-        _ => panic!(rt; "no ask"),
+    if !items.is_empty() || items.push(Item::Clause(Lits::new(alloc))).is_err() {
+        return false;
     }
-    assert!(rt; items.get(2).is_none());
+    let mut lits = Lits::new(alloc);
+    match Lit::from_dimacs(-3) {
+        Some(lit) => {
+            if lits.push(lit).is_err() {
+                return false;
+            }
+        }
+        None => return false,
+    }
+    if items.push(Item::Ask(lits)).is_err() {
+        return false;
+    }
+    items.len() == 2 && has_one(items.get(1)) && items.get(2).is_none()
+}
+
+#[test]
+fn items_are_kept(rt: HostRuntime) {
+    assert!(rt; keeps_items(rt.alloc()));
+}
+
+fn is_shown(alloc: Global, fault: CnfFault, want: &str) -> bool {
+    match format!(in alloc; "{}", fault) {
+        Ok(text) => text.as_str() == want,
+        Err(_) => false,
+    }
+}
+
+#[test]
+fn a_fault_is_shown(rt: HostRuntime) {
     let fault = CnfFault {
         line: 7,
         code: CnfCode::Unterminated,
     };
-    let text = format!(in alloc; "{}", fault)?;
-    assert_eq!(rt; text.as_str(), "line 7: a list has no 0");
-    Ok(())
+    assert!(rt; is_shown(rt.alloc(), fault, "line 7: a list has no 0"));
 }

@@ -1,7 +1,7 @@
 // What the words of a body give.
 ghost use Rattle.std.specs.Prelude.{◌≡◌, ◌≢◌, ◌≤◌, ◌<◌, ◌+◌, ◌++◌, ◌∷◌, max, [], ℤ, pos, IfOk, OnOk, Ok, Err};
 ghost use Rattle.gi_text.specs.Numbers.{size_of};
-ghost use Rattle.gi_lit.specs.Literals.{literal_of};
+ghost use Rattle.gi_lit.specs.Literals.{literal_of, max_var};
 ghost use Rattle.gi_dimacs.specs.Files.{begin, closed, asked, with_literal, with_assumption, begins_number, number_in, add_number, add_word};
 ghost use Rattle.gi_dimacs.specs.Adds.{Gives, GivesAsk, Is};
 
@@ -68,7 +68,7 @@ fn close_ask(taken: &mut Taken, alloc: Global) -> Result<(), AllocError>
 // A literal goes to what is open.
 fn begin_literal(taken: &mut Taken, z: i64) -> Result<(), AllocError>
     requires some { z ≢ pos 0 }
-    requires small { size_of z ≤ 1048576 }
+    requires small { size_of z ≤ max_var }
     ensures { OnOk result (taken.new ≡ with_assumption taken.old z) }
 {
     let lit = literal(z);
@@ -79,7 +79,7 @@ fn begin_literal(taken: &mut Taken, z: i64) -> Result<(), AllocError>
 // A literal goes to the open clause.
 fn add_literal(taken: &mut Taken, z: i64) -> Result<(), AllocError>
     requires some { z ≢ pos 0 }
-    requires small { size_of z ≤ 1048576 }
+    requires small { size_of z ≤ max_var }
     requires room { taken.old.literals < 67108864 }
     ensures { OnOk result (taken.new ≡ with_literal taken.old z) }
 {
@@ -91,7 +91,7 @@ fn add_literal(taken: &mut Taken, z: i64) -> Result<(), AllocError>
 // The literal of a number.
 fn literal(z: i64) -> Lit
     requires some { z ≢ pos 0 }
-    requires small { size_of z ≤ 1048576 }
+    requires small { size_of z ≤ max_var }
     ensures { result ≡ literal_of z }
 {
     match Lit::from_dimacs(z as i32) {
@@ -110,7 +110,7 @@ pub fn magnitude(z: i64) -> u32
 
 // A number of a clause.
 fn number(taken: &mut Taken, alloc: Global, z: i64) -> Result<Option<CnfCode>, AllocError>
-    requires { size_of z ≤ 1048576 }
+    requires { size_of z ≤ max_var }
     ensures { IfOk result (λ code. Gives code (add_number taken.old z) taken.old taken.new) }
 {
     if z == 0 {

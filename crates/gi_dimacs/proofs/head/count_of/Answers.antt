@@ -1,7 +1,6 @@
-use Rattle.std.proofs.Common.{◌≡◌, ℕ, None, Some, min, ap, sym, ◌∙◌, arith}
+use Rattle.std.proofs.Common.{arith}
 use Rattle.std.proofs.lemmas.Int.{ints, to_z-of_z}
 use Rattle.gi_text.specs.Numbers.{size_of}
-use Rattle.gi_dimacs.specs.Files.{count_at}
 use Rattle.gi_dimacs.proofs.Counting.{count_at-minus, count_at-plain}
 use Rattle.gi_dimacs.proofs.head.count_of.Goals as goal
 

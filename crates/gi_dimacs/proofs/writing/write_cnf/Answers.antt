@@ -1,4 +1,4 @@
-use Rattle.std.proofs.Common.{subst, sym, ◌∙◌, ◌≡◌}
+use Rattle.std.proofs.Common.{subst, sym, ◌∙◌}
 use Rattle.gi_dimacs.specs.Relation.{IsCnf}
 use Rattle.gi_dimacs.proofs.Texts.{text_is_cnf}
 use Rattle.gi_dimacs.proofs.Ends.{cnf_again}

@@ -1,4 +1,4 @@
-use Rattle.std.proofs.Common.{subst, sym, ◌∙◌, ◌≡◌}
+use Rattle.std.proofs.Common.{subst, sym, ◌∙◌}
 use Rattle.gi_dimacs.specs.Relation.{IsIcnf}
 use Rattle.gi_dimacs.proofs.Texts.{text_is_icnf}
 use Rattle.gi_dimacs.proofs.Ends.{icnf_again}

@@ -10,4 +10,4 @@ pub returns-clause-read : goal.returns-clause-read
 unfolding reads run
 returns-clause-read c = λ format bytes has.
     let all : reads c.args.self [] ≡ read_file format bytes = has.each [] ∙ ap (read_file format) (append-nil bytes) in
-    subst (λ r. Tells c.read_off.result r) (ap (λ r. reads r []) c.self.view_is ∙ all) c.read_off.ensures
+    subst (λ r. Tells c.read_off.result r) (ap (λ r. reads r []) c.self.view_is ∙ all) c.read_off.ensures.read

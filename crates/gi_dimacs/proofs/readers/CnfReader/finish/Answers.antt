@@ -1,7 +1,7 @@
 use Rattle.std.proofs.Common.{subst, sym}
 use Rattle.gi_dimacs.specs.declared.content.Format.TheVariants as formats
 use Rattle.gi_dimacs.specs.Reader.{HasRead}
-use Rattle.gi_dimacs.proofs.Ends.{told_cnf, is_fault}
+use Rattle.gi_dimacs.proofs.Ends.{told_cnf, no_items, is_fault}
 use Rattle.gi_dimacs.proofs.readers.CnfReader.finish.Goals as goal
 
 pub returns-in-File-default-Clauses-clause-read : goal.returns-in-File-default-Clauses-clause-read
@@ -12,3 +12,8 @@ returns-in-File-default-Clauses-clause-read c = λ bytes has.
 pub returns-in-Fault-clause-read : goal.returns-in-Fault-clause-read
 returns-in-Fault-clause-read c = λ bytes has.
     is_fault formats.Cnf bytes c.in-Fault.fault (c.in-Fault.ensures.read formats.Cnf bytes (subst (λ r. HasRead formats.Cnf r bytes) (sym c.self.view_is) has))
+
+pub returns-in-File-default-Items-clause-memory : goal.returns-in-File-default-Items-clause-memory
+returns-in-File-default-Items-clause-memory c = λ bytes has none.
+    absurd (no_items bytes c.in-File-default-Items.vars c.in-File-default-Items.content c.in-File-default-Items.content-0 c.in-File-default-Items.content-is
+    (c.in-File-default-Items.ensures.read formats.Cnf bytes (subst (λ r. HasRead formats.Cnf r bytes) (sym c.self.view_is) has)))
