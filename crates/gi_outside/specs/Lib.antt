@@ -4,3 +4,5 @@ pub mod World
 pub mod Script
 pub mod MemoryState
 pub mod StandardState
+pub mod Sent
+pub mod Outbox

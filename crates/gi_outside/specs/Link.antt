@@ -1,5 +1,5 @@
 -- What a call of a link does to its counts, its tape and the bytes still to come.
-use Rattle.std.specs.Prelude.{ℕ, ◌+◌, ◌-◌, ◌^◌, ◌≤◌, min, Bool, true, false, List, [], ◌∷◌, ◌++◌, take}
+use Rattle.std.specs.Prelude.{ℕ, zero, suc, ◌+◌, ◌-◌, ◌^◌, ◌≤◌, min, Bool, true, false, List, [], ◌∷◌, ◌++◌, take, Result, Ok, Err}
 use Rattle.gi_outside.specs.declared.link.Got.{Got}
 use Rattle.gi_outside.specs.declared.link.Put.{Put}
 use Rattle.gi_outside.specs.declared.link.Piece.{Piece}
@@ -25,6 +25,18 @@ ReadFits got.Failed room = Unit {0}
 abbrev pub WriteFits : Put → ℕ → Type 0
 WriteFits (put.Took n) room = (1 ≤ n) × (n ≤ room)
 WriteFits put.Failed room = Unit {0}
+
+-- what a read of the system is: no bytes into some room are the end
+abbrev pub got_of : {E : Type 0} → Result ℕ E → Got
+got_of (Ok zero) = got.End
+got_of (Ok (suc n)) = got.Bytes (suc n)
+got_of (Err e) = got.Failed
+
+-- what a write of the system is: to take nothing is a fault
+abbrev pub put_of : {E : Type 0} → Result ℕ E → Put
+put_of (Ok zero) = put.Failed
+put_of (Ok (suc n)) = put.Took (suc n)
+put_of (Err e) = put.Failed
 
 -- the bytes that a read gave
 abbrev pub bytes_read : Got → List ℕ → List ℕ

@@ -3,10 +3,16 @@
 
 mod link;
 mod memory;
+mod outbox;
+mod sending;
+mod sent;
 mod standard;
 #[cfg(test)]
 mod tests;
 
 pub use link::{Got, Link, Piece, Put};
 pub use memory::MemoryLink;
+pub use outbox::Outbox;
+pub use sending::write_all;
+pub use sent::Sent;
 pub use standard::StdLink;

@@ -1,6 +1,6 @@
 // A peer that gives bytes and takes bytes.
-ghost use Rattle.std.specs.Prelude.{◌≡◌, ◌≤◌, ◌<◌, [], length, true, IfSome};
-ghost use Rattle.gi_outside.specs.Link.{ReadFits, Rose, WriteFits, bytes_read, is_end, pieces_put, pieces_read};
+ghost use Rattle.std.specs.Prelude.{◌≡◌, ◌≤◌, ◌<◌, ℕ, [], length, true, IfOk, IfSome};
+ghost use Rattle.gi_outside.specs.Link.{ReadFits, Rose, WriteFits, bytes_read, got_of, is_end, pieces_put, pieces_read, put_of};
 ghost use Rattle.gi_outside.specs.Told.{Adds, Takes};
 ghost use Rattle.gi_outside.specs.World.{World};
 
@@ -31,6 +31,34 @@ pub enum Put {
     Took(usize),
     /// The write failed. No byte has moved.
     Failed,
+}
+
+impl Got {
+    /// What a read of the system is, which gave so many bytes: none are the end.
+    pub fn of<E: Drop>(read: Result<usize, E>) -> Got
+        ensures is { result ≡ got_of read }
+        ensures fits { (room : ℕ) → IfOk read (λ n. n ≤ room) → ReadFits result room }
+    {
+        match read {
+            Ok(0) => Got::End,
+            Ok(n) => Got::Bytes(n),
+            Err(_) => Got::Failed,
+        }
+    }
+}
+
+impl Put {
+    /// What a write of the system is, which took so many bytes: to take none is a fault.
+    pub fn of<E: Drop>(write: Result<usize, E>) -> Put
+        ensures is { result ≡ put_of write }
+        ensures fits { (room : ℕ) → IfOk write (λ n. n ≤ room) → WriteFits result room }
+    {
+        match write {
+            Ok(0) => Put::Failed,
+            Ok(n) => Put::Took(n),
+            Err(_) => Put::Failed,
+        }
+    }
 }
 
 /// A peer that gives bytes and takes bytes.

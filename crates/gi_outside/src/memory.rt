@@ -1,12 +1,12 @@
 // A link in memory, which keeps its tape.
-ghost use Rattle.std.specs.Prelude.{◌≡◌, ◌≤◌, ◌<◌, ◌+◌, ◌∷◌, ◌++◌, [], length, take, drop, true, false, Some, IfSome, OnOk, OnErr, All};
+ghost use Rattle.std.specs.Prelude.{◌≡◌, ◌≤◌, ◌<◌, ◌∷◌, ◌++◌, [], length, take, drop, true, false, Some, IfSome, OnOk, OnErr, All};
 ghost use Rattle.gi_outside.specs.Link.{ReadFits, Rose, WriteFits, bytes_read, is_end, outs, pieces_put, pieces_read};
 ghost use Rattle.gi_outside.specs.Told.{Adds, Takes};
 ghost use Rattle.gi_outside.specs.Script.{FollowsRead, FollowsWrite, read_size, reads_failed, writes_failed};
 ghost use Rattle.gi_outside.specs.declared.link.Piece.TheVariants.{In, Out};
 
 use crate::{Got, Link, Piece, Put};
-use gi_text::Bytes;
+use gi_text::{Bytes, skip};
 use std::alloc::{AllocError, Global};
 
 /// A link in memory, which tells its tape and the bytes still to come, and fails where it was told to.
@@ -226,13 +226,4 @@ fn note_out(
             Err(AllocError::from(e))
         }
     }
-}
-
-// What stands from a place on.
-fn skip(bytes: &[u8], at: usize) -> &[u8]
-    requires { at ≤ length bytes.now }
-    ensures value { result.now ≡ drop at bytes.now }
-    ensures len { length result.now + at ≡ length bytes.now }
-{
-    &bytes[at..]
 }

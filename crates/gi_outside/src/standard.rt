@@ -42,13 +42,13 @@ impl Link for StdLink {
 
     fn read(&mut self, into: &mut [u8]) -> Got {
         self.ended = false;
-        match self.input.read(into) {
-            Ok(0) => {
+        match Got::of(self.input.read(into)) {
+            Got::Bytes(n) => Got::Bytes(n),
+            Got::End => {
                 self.ended = true;
                 Got::End
             }
-            Ok(n) => Got::Bytes(n),
-            Err(_) => {
+            Got::Failed => {
                 self.failed_reads = self.failed_reads.saturating_add(1);
                 Got::Failed
             }
@@ -56,9 +56,9 @@ impl Link for StdLink {
     }
 
     fn write(&mut self, piece: &[u8]) -> Put {
-        match self.output.write(piece) {
-            Ok(n) if n > 0 => Put::Took(n),
-            _ => {
+        match Put::of(self.output.write(piece)) {
+            Put::Took(n) => Put::Took(n),
+            Put::Failed => {
                 self.failed_writes = self.failed_writes.saturating_add(1);
                 Put::Failed
             }
