@@ -2,7 +2,7 @@
 use Rattle.std.proofs.Common.{◌≡◌, ◌≢◌, ℕ, ◌+◌, ◌*◌, ◌/◌, ◌≤◌, Option, Some, None, List, [], ◌∷◌, ◌++◌, map, get_or, refl, arith, inl, inr}
 use Rattle.std.specs.List.{All, Contains}
 use Rattle.std.proofs.lemmas.List.Elements.{All-append, All-cons, All-nil, All-contains, All-weaker, All-map, Contains-append_right}
-use Rattle.gi_lit.specs.Problem.{Problem, Pair, guarded, full, guard_next, guard_made, next_guard, with_guard, IsProblemVar, IsPlain, IsLiveVar, IsAssumable, IsWellFormed}
+use Rattle.gi_lit.specs.Problem.{Problem, Group, negatives, guarded, full, guard_next, guard_made, next_guard, with_guard, IsProblemVar, IsPlain, IsLiveVar, IsAssumable, IsGroup, IsWellFormed}
 use Rattle.gi_lit.proofs.Vars.{var_facts, guard_facts}
 use Rattle.gi_lit.proofs.Distinct.{IsDistinct-apart, Contains-head}
 use Rattle.gi_model.specs.State.{State, scope_assumed}
@@ -42,9 +42,9 @@ unfolding full
 full_made p [] = refl
 full_made p (g ∷ gs) = refl
 
-pairs_made : (p : Problem) (fs : List ℕ) → (guard_made p fs).pairs ≡ p.pairs
-pairs_made p [] = refl
-pairs_made p (g ∷ gs) = refl
+groups_made : (p : Problem) (fs : List ℕ) → (guard_made p fs).groups ≡ p.groups
+groups_made p [] = refl
+groups_made p (g ∷ gs) = refl
 
 module _ (s : State) (k : IsKept s) where
   u : IsUnused s.problem (next_guard s.problem)
@@ -60,20 +60,27 @@ module _ (s : State) (k : IsKept s) where
   plain : (c : List ℕ) → IsPlain s.problem c → IsWithout (next_guard s.problem) c
   plain c a = All-weaker (λ l. IsProblemVar s.problem (l / 2)) (λ l. l / 2 ≢ next_guard s.problem) (λ l. u.plain (l / 2)) c a
 
-  pairs : All (λ (q : Pair). q.guard ≢ next_guard s.problem) s.problem.pairs
-  pairs = All-weaker (λ (q : Pair). Contains s.problem.active q.guard) (λ (q : Pair). q.guard ≢ next_guard s.problem) (λ q. u.active q.guard) s.problem.pairs k.clauses.guards
+  unnamed : (q : Group) → IsGroup s.problem q → ¬ Contains q.guards (next_guard s.problem)
+  unnamed q h c = u.active (next_guard s.problem) (All-contains (Contains s.problem.active) q.guards (next_guard s.problem) h.1 c) refl
+
+  negative : (gs : List ℕ) → All (Contains s.problem.active) gs → IsWithout (next_guard s.problem) (negatives gs)
+  negative gs a = All-map (λ l. l / 2 ≢ next_guard s.problem) (λ g. 2 * g + 1) gs (λ i d lt e. u.active (get_or gs i d) (a i d lt) (omega arith))
+
+  group : (q : Group) → IsGroup s.problem q → IsWithout (next_guard s.problem) (guarded q)
+  group q h = All-append (λ l. l / 2 ≢ next_guard s.problem) q.clause (negatives q.guards) (plain q.clause h.0) (negative q.guards h.1)
+
+  groups : All (λ (q : Group). ¬ Contains q.guards (next_guard s.problem)) s.problem.groups
+  groups = All-weaker (IsGroup s.problem) (λ (q : Group). ¬ Contains q.guards (next_guard s.problem)) unnamed s.problem.groups k.clauses.groups
 
   clauses : All (IsWithout (next_guard s.problem)) (full s.problem)
   unfolding full
-  clauses = All-append (IsWithout (next_guard s.problem)) s.problem.plain (map guarded s.problem.pairs)
+  clauses = All-append (IsWithout (next_guard s.problem)) s.problem.plain (map guarded s.problem.groups)
       (All-weaker (IsPlain s.problem) (IsWithout (next_guard s.problem)) plain s.problem.plain k.clauses.plain)
-      (All-map (IsWithout (next_guard s.problem)) guarded s.problem.pairs (λ i d lt.
-      All-append (λ l. l / 2 ≢ next_guard s.problem) (get_or s.problem.pairs i d).clause _ (plain (get_or s.problem.pairs i d).clause (k.clauses.pairs i d lt))
-      (All-cons (λ l. l / 2 ≢ next_guard s.problem) (2 * (get_or s.problem.pairs i d).guard + 1) [] (λ q. pairs i d lt (omega arith)) (All-nil (λ l. l / 2 ≢ next_guard s.problem)))))
+      (All-map (IsWithout (next_guard s.problem)) guarded s.problem.groups (λ i d lt. group (get_or s.problem.groups i d) (k.clauses.groups i d lt)))
 
   pub clean : IsClean (with_problem (with_guard s.problem) s) (next_guard s.problem)
   clean = record {
-    pairs = rw (pairs_made s.problem s.problem.freed) pairs;
+    groups = rw (groups_made s.problem s.problem.freed) groups;
     clauses = rw (full_made s.problem s.problem.freed) clauses;
     known = All-weaker (λ c. All (λ l. IsLiveVar s.problem (l / 2)) c) (IsWithout (next_guard s.problem)) (λ c a. All-weaker (λ l. IsLiveVar s.problem (l / 2)) (λ l. l / 2 ≢ next_guard s.problem) (λ l. u.live (l / 2)) c a) s.known k.known_live;
     pending = without s.pending k.pending;

@@ -89,7 +89,7 @@ answer_inside : (s : State) (c : Call) (answer : Reply) → is_work c ≡ false 
 answer_inside s (call.Vars n) answer w f a = by_is answer _ a (λ x. x)
 answer_inside s (call.Add c) answer w f a = by_is answer _ a (λ x. x)
 answer_inside s call.NewGuard answer w f a = by_is answer _ a (λ x. x)
-answer_inside s (call.Under g c) answer w f a = by_is answer _ a (λ x. x)
+answer_inside s (call.Under gs c) answer w f a = by_is answer _ a (λ x. x)
 answer_inside s (call.DropGuard g) answer w f a = by_is answer _ a (λ x. x)
 answer_inside s (call.Assume ls) answer w f a = by_is answer _ a (λ x. x)
 answer_inside s call.Test answer w f a = test_inside s answer a
@@ -183,6 +183,7 @@ not_live s n = go s.life s.solve n
 pub may_come : (s : State) (c : Call) → fits c ≡ true → (c ≡ call.Wait → phase_of s ≢ phase.Live) → MayCome s c
 may_come s (call.Work mark) f w = tt
 may_come s call.Wait f w = not_live s (w refl)
+may_come s (call.Under gs c) f w = f
 may_come s (call.Solve b) f w = f
 may_come s (call.LoadCnf bytes) f w = f
 may_come s other f w = refl

@@ -1,7 +1,7 @@
 -- Every legal history keeps the machine's invariant.
-use Rattle.std.proofs.Common.{◌≡◌, ◌≢◌, ℕ, ◌/◌, ◌≤◌, true, false, not, Option, Some, None, List, [], ◌∷◌, refl, sym, ap, subst, arith, ◌⊎◌, inl, inr, ◌==◌}
+use Rattle.std.proofs.Common.{◌≡◌, ◌≢◌, ℕ, ◌/◌, ◌≤◌, true, false, not, Option, Some, None, List, [], ◌∷◌, length, refl, sym, ap, subst, arith, ◌⊎◌, inl, inr, ◌==◌}
 use Rattle.std.specs.List.{All}
-use Rattle.std.proofs.lemmas.Bool.{both_ways, not-true, eq-eqb}
+use Rattle.std.proofs.lemmas.Bool.{both_ways, not-true, eq-eqb, ltb-true}
 use Rattle.std.proofs.lemmas.List.Elements.{All-nil}
 use Rattle.gi_lit.specs.Problem.{IsPlain, IsLiveVar, IsAssumable, lit_count}
 use Rattle.gi_lit.specs.Learnt.{IsImplied}
@@ -66,7 +66,7 @@ live_is s r e = go s.life s.solve e
 pub dead_kept : IsKept dead_state
 unfolding scope_assumed lit_count
 dead_kept = record {
-  clauses = record { plain = All-nil (IsPlain dead_state.problem); pairs = λ k d lt. absurd (omega arith); guards = λ k d lt. absurd (omega arith); distinct = tt; low = All-nil (λ g. 1 ≤ g); high = All-nil (λ g. g ≤ 0) };
+  clauses = record { plain = All-nil (IsPlain dead_state.problem); groups = λ k d lt. absurd (omega arith); distinct = tt; low = All-nil (λ g. 1 ≤ g); high = All-nil (λ g. g ≤ 0) };
   within = within;
   known_live = All-nil (λ c. All (λ l. IsLiveVar dead_state.problem (l / 2)) c);
   known_implied = All-nil (IsImplied dead_state.problem);
@@ -111,7 +111,7 @@ unfolding after
 answer_kept s (call.Vars n) answer w m a h k = subst (λ a. IsKept (after s (call.Vars n) a)) (sym h) (vars_kept s n a k)
 answer_kept s (call.Add c) answer w m a h k = subst (λ r. IsKept (after s (call.Add c) r)) (sym h) (add_kept s c a k)
 answer_kept s call.NewGuard answer w m a h k = subst (λ r. IsKept (after s call.NewGuard r)) (sym h) (new_guard_kept s a k)
-answer_kept s (call.Under g c) answer w m a h k = subst (λ r. IsKept (after s (call.Under g c) r)) (sym h) (under_kept s g c a k)
+answer_kept s (call.Under gs c) answer w m a h k = subst (λ r. IsKept (after s (call.Under gs c) r)) (sym h) (under_kept s gs c (ltb-true 0 (length gs) m) a k)
 answer_kept s (call.DropGuard g) answer w m a h k = subst (λ r. IsKept (after s (call.DropGuard g) r)) (sym h) (drop_kept s g a k)
 answer_kept s (call.Assume ls) answer w m a h k = subst (λ r. IsKept (after s (call.Assume ls) r)) (sym h) (assume_kept s ls a k)
 answer_kept s (call.LoadCnf bytes) answer w m a h k = subst (λ r. IsKept (after s (call.LoadCnf bytes) r)) (sym h) (load_kept s bytes a k)

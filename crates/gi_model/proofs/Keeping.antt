@@ -1,21 +1,23 @@
 -- Each kind of entry keeps the machine's invariant.
 use Rattle.std.proofs.Common.{◌≡◌, ◌≢◌, ℕ, zero, suc, ◌+◌, ◌-◌, ◌*◌, ◌/◌, ◌<◌, ◌≤◌, Bool, true, false, not, ◌||◌, nat_lt, nat_le, List, [], ◌∷◌, ◌++◌, length, take, drop, get_or, refl, sym, ap, ◌∙◌, subst, arith, ◌⊎◌, inl, inr, append_assoc, length-append}
-use Rattle.std.specs.List.{All, Contains}
+use Rattle.std.specs.List.{All, Contains, list_any}
 use Rattle.std.proofs.lemmas.Bool.{cases_Bool, cond_both, both_ways, not-false, or_parts, or_cases, and_from, leb-false, ltb-false}
 use Rattle.std.proofs.lemmas.List.Elements.{All-append, All-cons, All-nil, All-contains, All-weaker, All-drop, Contains-get_or, Contains-append_left, Contains-append_right}
 use Rattle.std.proofs.lemmas.List.Folds.{list_any_at}
-use Rattle.gi_lit.specs.Problem.{Problem, force, has, is_usable, is_guard_lit, top, grown, with_clause, with_pair, with_guard, without_guard, IsProblemVar, IsAssumable, IsLiveVar, IsWellFormed}
+use Rattle.gi_lit.specs.Problem.{Problem, force, has, is_usable, is_guard_lit, top, grown, with_clause, with_group, with_guard, without_guard, IsProblemVar, IsAssumable, IsLiveVar, IsWellFormed}
 use Rattle.gi_lit.specs.Learnt.{IsImplied, AreFresh}
 use Rattle.gi_lit.proofs.Vars.{usable_facts, Contains-from_has, lacks_none, var_facts}
-use Rattle.gi_lit.proofs.Growing.{Grows, IsUsable, grows_grown, IsWellFormed-grown, grows_clause, IsWellFormed-clause, grows_pair, IsWellFormed-pair, grows_guard, IsWellFormed-guard, assumable_grows, implied_grows, fails_more, usable_grown, Satisfies-fewer}
+use Rattle.gi_lit.proofs.Growing.{Grows, IsUsable, grows_grown, IsWellFormed-grown, grows_clause, IsWellFormed-clause, grows_group, IsWellFormed-group, grows_guard, IsWellFormed-guard, assumable_grows, implied_grows, fails_more, usable_grown, Satisfies-fewer}
 use Rattle.gi_lit.proofs.Tops.{top_bounds}
 use Rattle.gi_lit.proofs.Distinct.{IsDistinct-apart}
 use Rattle.gi_lit.proofs.Dropping as dropping
-use Rattle.gi_model.specs.Limits.{most_vars, most_pending, most_scopes, most_solves, most_untrimmed}
+use Rattle.gi_model.specs.Limits.{most_pending, most_scopes, most_solves, most_untrimmed}
+use Rattle.gi_lit.specs.Literals.{max_var}
 use Rattle.gi_model.specs.State.{State, Scope, Found, listed, failing, listed_in, Run, Solve, no_solve, running, paused, ended, scope_assumed, scope_listed, all_assumed}
 use Rattle.gi_model.specs.Refusals.{some_unusable, is_scoped, paused_assumed, admits}
 use Rattle.gi_model.specs.Effects.{edited, with_problem, assuming, opened, untested, started, trimmed, dropped, sliced}
-use Rattle.gi_model.specs.Work.{Works, EndsWork, IsModel}
+use Rattle.gi_lit.specs.Ends.{IsModel}
+use Rattle.gi_model.specs.Work.{Works, EndsWork}
 use Rattle.gi_model.specs.Tests.{IsListed}
 use Rattle.gi_model.specs.Kept.{run_assumed, IsFoundSound, AreScopesSound, IsRunSound, IsVerdictSound, IsSolveSound, IsProblemWithin, IsKept}
 use Rattle.gi_model.specs.declared.calls.Call.TheVariants as call
@@ -23,7 +25,7 @@ use Rattle.gi_model.specs.declared.replies.Now.{Now}
 use Rattle.gi_model.specs.declared.replies.Now.TheVariants.{Live, Ended}
 use Rattle.gi_model.specs.declared.replies.Verdict.TheVariants.{Sat, Unsat, Unknown}
 use Rattle.gi_model.proofs.Accepting.{IsAccepted}
-use Rattle.gi_model.proofs.Counts.{within_grown, within_clause, within_pair, within_guard, within_dropped}
+use Rattle.gi_model.proofs.Counts.{within_grown, within_clause, within_group, within_guard, within_dropped}
 
 pub append-nil : {X : Type 0} (xs : List X) → xs ++ [] ≡ xs
 append-nil [] = refl
@@ -81,11 +83,11 @@ with_problem_kept s q g h w k = record {
   few_solves = k.few_solves;
 }
 
-vars_grown : (s : State) (n : ℕ) → n ≤ most_vars → IsKept s → IsKept (with_problem (grown n s.problem) s)
+vars_grown : (s : State) (n : ℕ) → n ≤ max_var → IsKept s → IsKept (with_problem (grown n s.problem) s)
 vars_grown s n le k = with_problem_kept s (grown n s.problem) (grows_grown n s.problem) (IsWellFormed-grown n s.problem k.clauses) (within_grown n s.problem le k.within) k
 
 pub vars_kept : (s : State) (n : ℕ) → IsAccepted s (call.Vars n) → IsKept s → IsKept (with_problem (grown n s.problem) s)
-vars_kept s n a k = vars_grown s n (ltb-false most_vars n a.within) k
+vars_kept s n a k = vars_grown s n (ltb-false max_var n a.within) k
 
 pub all_usable : (p : Problem) (c : List ℕ) → some_unusable p c ≡ false → All (IsUsable p) c
 all_usable p c e k d lt = elim (cases_Bool (is_usable p (get_or c k d))) [
@@ -96,16 +98,23 @@ all_usable p c e k d lt = elim (cases_Bool (is_usable p (get_or c k d))) [
 pub add_kept : (s : State) (c : List ℕ) → IsAccepted s (call.Add c) → IsKept s → IsKept (with_problem (with_clause c s.problem) s)
 add_kept s c a k = with_problem_kept s (with_clause c s.problem) (grows_clause c s.problem) (IsWellFormed-clause c s.problem (all_usable s.problem c a.good_lits) k.clauses) (within_clause c s.problem a.within k.within) k
 
-pub under_kept : (s : State) (g : ℕ) (c : List ℕ) → IsAccepted s (call.Under g c) → IsKept s → IsKept (with_problem (with_pair g c s.problem) s)
-under_kept s g c a k = with_problem_kept s (with_pair g c s.problem) (grows_pair g c s.problem) (IsWellFormed-pair g c s.problem (Contains-from_has s.problem.active g (not-false _ a.guard)) (all_usable s.problem c a.good_lits) k.clauses) (within_pair g c s.problem a.within k.within) k
+-- guards that are named are active
+pub all_active : (p : Problem) (gs : List ℕ) → list_any (λ g. not (has p.active g)) gs ≡ false → All (Contains p.active) gs
+all_active p gs e k d lt = elim (cases_Bool (has p.active (get_or gs k d))) [
+  | inl t ↦ Contains-from_has p.active (get_or gs k d) t
+  | inr f ↦ absurd (both_ways _ e (list_any_at (λ g. not (has p.active g)) gs k d lt (rw f refl)))
+]
+
+pub under_kept : (s : State) (gs c : List ℕ) → 0 < length gs → IsAccepted s (call.Under gs c) → IsKept s → IsKept (with_problem (with_group gs c s.problem) s)
+under_kept s gs c lt a k = with_problem_kept s (with_group gs c s.problem) (grows_group gs c s.problem) (IsWellFormed-group gs c s.problem lt (all_active s.problem gs a.guard) (all_usable s.problem c a.good_lits) k.clauses) (within_group gs c s.problem a.within k.within) k
 
 pub new_guard_kept : (s : State) → IsAccepted s call.NewGuard → IsKept s → IsKept (with_problem (with_guard s.problem) s)
 new_guard_kept s a k = with_problem_kept s (with_guard s.problem) (grows_guard s.problem s.problem.freed refl k.clauses) (IsWellFormed-guard s.problem s.problem.freed refl k.clauses) (within_guard s.problem s.problem.freed room k.within) k
   where
-    room : s.problem.freed ≡ [] → s.problem.vars < most_vars
-    room e = elim (cases_Bool (nat_le most_vars s.problem.vars)) [
+    room : s.problem.freed ≡ [] → s.problem.vars < max_var
+    room e = elim (cases_Bool (nat_le max_var s.problem.vars)) [
       | inl t ↦ absurd (both_ways _ a.within (and_from _ _ (rw e refl) t))
-      | inr f ↦ leb-false most_vars s.problem.vars f
+      | inr f ↦ leb-false max_var s.problem.vars f
     ]
 
 no_scopes : (scs : List Scope) (g : ℕ) → is_scoped scs (call.DropGuard g) ≡ false → scs ≡ []
@@ -146,7 +155,7 @@ drop_kept s g a k =
 pub assume_kept : (s : State) (ls : List ℕ) → IsAccepted s (call.Assume ls) → IsKept s → IsKept (assuming ls s)
 assume_kept s ls a k =
     let b = or_parts _ _ a.within in
-    let g = vars_grown s (top ls) (ltb-false most_vars (top ls) b.0) k in
+    let g = vars_grown s (top ls) (ltb-false max_var (top ls) b.0) k in
     record {
       clauses = g.clauses;
       within = g.within;
@@ -189,7 +198,7 @@ solve_kept s b n a k =
       assumed = k.assumed;
       run = All-append (IsAssumable s.problem) (scope_assumed s.scopes) s.pending k.assumed k.pending;
       scopes = k.scopes;
-      solve = record { low = omega arith; last = refl; left = omega arith };
+      solve = record { low = omega arith; last = refl; left = omega arith; slices = omega arith };
       few_pending = omega arith;
       few_scopes = k.few_scopes;
       few_solves = omega arith;
@@ -307,11 +316,11 @@ work_kept s r mark news now e w k = record {
     go Live = was
     go (Ended v) = All-nil (IsAssumable s.problem)
 
-    model : (values : List Bool) → IsModel s r.assumed values → IsVerdictSound s.problem (Sat values)
+    model : (values : List Bool) → IsModel s.problem r.assumed values → IsVerdictSound s.problem (Sat values)
     model values m = (m.count, Satisfies-fewer s.problem.plain (force s.problem r.assumed) values (λ c h. Contains-append_left s.problem.plain _ c h) m.clauses)
 
     sound : (n : Now) → EndsWork s r mark news n → IsSolveSound s.problem s.serial (sliced r (length news) n)
-    sound Live h = record { low = before.low; last = before.last; left = (let a : r.spent + length news ≢ r.budget = λ q. h.1 (q, h.2) in let b = w.within in omega arith) }
+    sound Live h = record { low = before.low; last = before.last; slices = (let c = before.slices in let d = h.2.0 in omega arith); left = (let a : r.spent + length news ≢ r.budget = λ q. h.1 (q, h.2) in let b = w.within in omega arith) }
     sound (Ended (Sat values)) h = (before.low, before.last, model values h.2)
     sound (Ended (Unsat f)) h = (before.low, before.last, h.2.fails)
     sound (Ended (Unknown c)) h = (before.low, before.last, tt)

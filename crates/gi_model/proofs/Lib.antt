@@ -1,3 +1,4 @@
+pub mod Folding
 pub mod Accepting
 pub mod Counts
 pub mod Keeping

@@ -1,12 +1,12 @@
 -- What a literal's reasons show.
-use Rattle.std.proofs.Common.{◌≡◌, ◌≢◌, ℕ, ◌+◌, ◌*◌, ◌/◌, ◌≤◌, Bool, true, false, cond, nat_eq, ◌||◌, Option, Some, None, List, [], ◌∷◌, ◌++◌, map, get_or, refl, sym, ◌∙◌, subst, arith, inl, inr}
+use Rattle.std.proofs.Common.{◌≡◌, ◌≢◌, ℕ, ◌+◌, ◌*◌, ◌/◌, ◌≤◌, Bool, true, false, nat_eq, ◌&&◌, ◌||◌, Option, Some, None, List, [], ◌∷◌, ◌++◌, map, get_or, refl, sym, ◌∙◌, subst, arith, inl, inr}
 use Rattle.std.specs.List.{All, Contains, list_any}
 use Rattle.std.proofs.lemmas.Bool.{cases_eq, false≢true, ne_eqb, not-true, not-false}
 use Rattle.std.proofs.lemmas.List.Elements.{All-append, All-cons, All-nil, All-contains, All-weaker, All-map, All-head, All-tail, Contains-get_or, Contains-append_left, Contains-append_right}
 use Rattle.std.proofs.lemmas.List.Folds.{list_any-append, list_any_none}
 use Rattle.gi_lit.specs.Literals.{opposite}
 use Rattle.gi_lit.specs.Truth.{true_in, clause_true, Satisfies, IsConsequence, Fail}
-use Rattle.gi_lit.specs.Problem.{Problem, Pair, forced, guarded, full, force, IsProblemVar, IsPlain, IsWellFormed}
+use Rattle.gi_lit.specs.Problem.{Problem, Group, are_given, forced, negatives, guarded, full, force, IsProblemVar, IsPlain, IsGroup, IsWellFormed}
 use Rattle.gi_lit.proofs.Guarding.{guards_sound}
 use Rattle.gi_lit.proofs.Literals.{true_in-opposite, var-opposite}
 use Rattle.gi_lit.proofs.Vars.{var_facts, Contains-from_has}
@@ -20,31 +20,44 @@ use Rattle.gi_model.specs.declared.replies.Reply.TheVariants as reply
 use Rattle.gi_model.specs.declared.refusal.Refusal.{Refusal}
 use Rattle.gi_model.proofs.Accepting.{accepted_facts}
 
--- a literal that is no guard's puts no clause in force
-forced_same : (given : List ℕ) (x : ℕ) (ps : List Pair) → All (λ (q : Pair). 2 * q.guard ≢ x) ps → forced (given ++ x ∷ []) ps ≡ forced given ps
-forced_same given x [] a = refl
-forced_same given x (q ∷ ps) a = rw (list_any-append (nat_eq (2 * q.guard)) given (x ∷ []), ne_eqb (2 * q.guard) x (All-head (λ (q : Pair). 2 * q.guard ≢ x) q ps a), forced_same given x ps (All-tail (λ (q : Pair). 2 * q.guard ≢ x) q ps a)) (go (list_any (nat_eq (2 * q.guard)) given))
+-- a literal that is no guard's gives no guards
+given_same : (given : List ℕ) (x : ℕ) (gs : List ℕ) → All (λ g. 2 * g ≢ x) gs → are_given (given ++ x ∷ []) gs ≡ are_given given gs
+given_same given x [] a = refl
+given_same given x (g ∷ gs) a = rw (list_any-append (nat_eq (2 * g)) given (x ∷ []), ne_eqb (2 * g) x (All-head (λ g. 2 * g ≢ x) g gs a), given_same given x gs (All-tail (λ g. 2 * g ≢ x) g gs a)) (go (list_any (nat_eq (2 * g)) given))
   where
-    go : (b : Bool) → cond (b || false) (q.clause ∷ forced given ps) (forced given ps) ≡ cond b (q.clause ∷ forced given ps) (forced given ps)
+    go : (b : Bool) → ((b || false) && are_given given gs) ≡ (b && are_given given gs)
     go true = refl
     go false = refl
 
+-- and puts no clause in force
+forced_same : (given : List ℕ) (x : ℕ) (qs : List Group) → All (λ (q : Group). All (λ g. 2 * g ≢ x) q.guards) qs → forced (given ++ x ∷ []) qs ≡ forced given qs
+forced_same given x [] a = refl
+forced_same given x (q ∷ qs) a = rw (given_same given x q.guards (All-head (λ (q : Group). All (λ g. 2 * g ≢ x) q.guards) q qs a), forced_same given x qs (All-tail (λ (q : Group). All (λ g. 2 * g ≢ x) q.guards) q qs a)) refl
+
 pub full_low : (p : Problem) → IsWellFormed p → All (λ c. All (λ l. 1 ≤ l / 2) c) (full p)
 unfolding full
-full_low p h = All-append (λ c. All (λ l. 1 ≤ l / 2) c) p.plain (map guarded p.pairs)
+full_low p h = All-append (λ c. All (λ l. 1 ≤ l / 2) c) p.plain (map guarded p.groups)
     (All-weaker (IsPlain p) (λ c. All (λ l. 1 ≤ l / 2) c) low p.plain h.plain)
-    (All-map (λ c. All (λ l. 1 ≤ l / 2) c) guarded p.pairs (λ k d lt. All-append (λ l. 1 ≤ l / 2) (get_or p.pairs k d).clause _ (low (get_or p.pairs k d).clause (h.pairs k d lt))
-    (All-cons (λ l. 1 ≤ l / 2) (2 * (get_or p.pairs k d).guard + 1) [] (let g : 1 ≤ (get_or p.pairs k d).guard = All-contains (λ x. 1 ≤ x) (p.freed ++ p.active) _ h.low (Contains-append_right p.freed p.active _ (h.guards k d lt)) in omega arith) (All-nil (λ l. 1 ≤ l / 2)))))
+    (All-map (λ c. All (λ l. 1 ≤ l / 2) c) guarded p.groups (λ k d lt. group (get_or p.groups k d) (h.groups k d lt)))
   where
     low : (c : List ℕ) → IsPlain p c → All (λ l. 1 ≤ l / 2) c
     low c a = All-weaker (λ l. IsProblemVar p (l / 2)) (λ l. 1 ≤ l / 2) (λ l x. (var_facts p (l / 2) x).low) c a
+
+    guard : (g : ℕ) → Contains p.active g → 1 ≤ g
+    guard g a = All-contains (λ x. 1 ≤ x) (p.freed ++ p.active) g h.low (Contains-append_right p.freed p.active g a)
+
+    group : (q : Group) → IsGroup p q → All (λ l. 1 ≤ l / 2) (guarded q)
+    group q a = All-append (λ l. 1 ≤ l / 2) q.clause (negatives q.guards) (low q.clause a.0)
+        (All-map (λ l. 1 ≤ l / 2) (λ g. 2 * g + 1) q.guards (λ k d lt. let b = guard (get_or q.guards k d) (a.1 k d lt) in omega arith))
 
 reasons_show : (s : State) (m : ℕ) (rs : List ℕ) → IsWellFormed s.problem → IsProblemVar s.problem (m / 2) → Explains s m rs → IsConsequence (force s.problem rs) rs m
 unfolding full force
 reasons_show s m rs h pm x values sat given = go (true_in values m) refl
   where
-    no_guard : All (λ (q : Pair). 2 * q.guard ≢ opposite m) s.problem.pairs
-    no_guard k d lt e = let q : (get_or s.problem.pairs k d).guard ≡ m / 2 = omega (arith, var-opposite m) in (var_facts s.problem (m / 2) pm).inactive (subst (Contains s.problem.active) q (h.guards k d lt))
+    no_guard : All (λ (q : Group). All (λ g. 2 * g ≢ opposite m) q.guards) s.problem.groups
+    no_guard k d lt i e le t =
+        let q : get_or (get_or s.problem.groups k d).guards i e ≡ m / 2 = omega (arith, var-opposite m) in
+        (var_facts s.problem (m / 2) pm).inactive (subst (Contains s.problem.active) q ((h.groups k d lt).1 i e le))
 
     fails : Fail (full s.problem) (rs ++ opposite m ∷ [])
     fails v a b = false≢true (sym (list_any_none (true_in v) x.clause each) ∙ All-contains (λ c. clause_true v c ≡ true) (full s.problem) x.clause a.each x.stands)
@@ -70,7 +83,7 @@ reasons_show s m rs h pm x values sat given = go (true_in values m) refl
     go : (b : Bool) → true_in values m ≡ b → b ≡ true
     go true e = refl
     go false e = absurd (guards_sound s.problem (rs ++ opposite m ∷ []) h low fails values
-        (subst (λ cs. Satisfies values (s.problem.plain ++ cs)) (sym (forced_same rs (opposite m) s.problem.pairs no_guard)) sat)
+        (subst (λ cs. Satisfies values (s.problem.plain ++ cs)) (sym (forced_same rs (opposite m) s.problem.groups no_guard)) sat)
         (record { each = All-append (λ l. true_in values l ≡ true) rs (opposite m ∷ []) given.each (All-cons (λ l. true_in values l ≡ true) (opposite m) [] (true_in-opposite values m ∙ rw e refl) (All-nil (λ l. true_in values l ≡ true))) }))
 
 -- what open scopes list is of problem variables

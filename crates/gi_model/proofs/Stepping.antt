@@ -1,7 +1,8 @@
 -- The ways in which a step may end.
 use Rattle.std.proofs.Common.{◌≡◌, ℕ, ◌+◌, ◌<◌, ◌≤◌, true, false, Option, Some, None, [], refl, sym, subst, inl, inr}
 use Rattle.std.proofs.lemmas.Bool.{both_ways, and_from, le-leb, leb-false}
-use Rattle.gi_model.specs.Limits.{most_vars, most_solves}
+use Rattle.gi_model.specs.Limits.{most_solves}
+use Rattle.gi_lit.specs.Literals.{max_var}
 use Rattle.gi_model.specs.State.{State, Solve, no_solve, running, paused, ended, dead_state}
 use Rattle.gi_model.specs.Replies.{status_of}
 use Rattle.gi_model.specs.Refusals.{refuses, is_none_yet}
@@ -55,8 +56,8 @@ pub poll_step : (s : State) (answer : Reply) → refuses s call.Poll ≡ None �
 poll_step s answer e a = subst (λ r. Step s call.Poll r s) (sym a) (step_status s s call.Poll s.solve refl e (accepted_facts s call.Poll refl e).has_solve refl refl)
 
 -- a guard can't be made only where the limit refuses
-pub guard_room : (s : State) → refuses s call.NewGuard ≡ None → s.problem.freed ≡ [] → most_vars ≤ s.problem.vars → ⊥
-guard_room s e f v = both_ways _ (accepted_facts s call.NewGuard refl e).within (and_from _ _ (rw f refl) (le-leb most_vars s.problem.vars v))
+pub guard_room : (s : State) → refuses s call.NewGuard ≡ None → s.problem.freed ≡ [] → max_var ≤ s.problem.vars → ⊥
+guard_room s e f v = both_ways _ (accepted_facts s call.NewGuard refl e).within (and_from _ _ (rw f refl) (le-leb max_var s.problem.vars v))
 
 pub serial_room : (s : State) (b : ℕ) → refuses s (call.Solve b) ≡ None → s.serial < most_solves
 serial_room s b e = leb-false most_solves s.serial (accepted_facts s (call.Solve b) refl e).within

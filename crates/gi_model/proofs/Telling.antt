@@ -109,7 +109,7 @@ unfolding after
 answer_tells s (call.Vars n) answer spent a h = told s (call.Vars n) answer _ spent a (record { known_is = refl; spent_is = spent_edited s.solve spent h })
 answer_tells s (call.Add c) answer spent a h = told s (call.Add c) answer _ spent a (record { known_is = refl; spent_is = spent_edited s.solve spent h })
 answer_tells s call.NewGuard answer spent a h = told s call.NewGuard answer _ spent a (record { known_is = refl; spent_is = spent_edited s.solve spent h })
-answer_tells s (call.Under g c) answer spent a h = told s (call.Under g c) answer _ spent a (record { known_is = refl; spent_is = spent_edited s.solve spent h })
+answer_tells s (call.Under gs c) answer spent a h = told s (call.Under gs c) answer _ spent a (record { known_is = refl; spent_is = spent_edited s.solve spent h })
 answer_tells s (call.DropGuard g) answer spent a h = told s (call.DropGuard g) answer _ spent a (record { known_is = refl; spent_is = spent_edited s.solve spent h })
 answer_tells s (call.Assume ls) answer spent a h = told s (call.Assume ls) answer _ spent a (record { known_is = refl; spent_is = spent_edited s.solve spent h })
 answer_tells s call.Test answer spent a h = test_tells s answer spent h a

@@ -1,6 +1,6 @@
 -- What an entry changes.
 use Rattle.std.specs.Prelude.{ℕ, ◌+◌, ◌-◌, ◌/◌, nat_lt, if◌then◌else◌, Option, Some, List, [], ◌∷◌, ◌++◌, length, take, drop}
-use Rattle.gi_lit.specs.Problem.{Problem, grown, with_clause, with_pair, with_guard, without_guard, without_var, top}
+use Rattle.gi_lit.specs.Problem.{Problem, grown, with_clause, with_group, with_guard, without_guard, without_var, top}
 use Rattle.gi_model.specs.Limits.{most_untrimmed}
 use Rattle.gi_model.specs.Loads.{loaded, with_file}
 use Rattle.gi_model.specs.State.{State, Found, listed, failing, Run, Solve, no_solve, running, paused, ended, shut, dead_state, live_run, all_assumed}
@@ -72,17 +72,17 @@ abbrev pub started : ℕ → State → State
 started budget s = record s {
   known = trimmed s.known;
   pending = [];
-  solve = running (record { serial = s.serial + 1; assumed = all_assumed s; budget = budget; spent = 0 });
+  solve = running (record { serial = s.serial + 1; assumed = all_assumed s; budget = budget; spent = 0; slices = 0 });
   serial = s.serial + 1;
 }
 
--- a guard is dropped, with its clauses and with what was learnt about it
+-- a guard is dropped, with the groups that name it and with what was learnt about it
 abbrev pub dropped : ℕ → State → State
 dropped g s = record s { problem = without_guard g s.problem; known = without_var g s.known; solve = edited s.solve }
 
 -- what a slice leaves of the solve
 abbrev pub sliced : Run → ℕ → Now → Solve
-sliced r news Live = running (record r { spent = r.spent + news })
+sliced r news Live = running (record r { spent = r.spent + news; slices = r.slices + 1 })
 sliced r news (Ended verdict) = ended r.serial verdict
 
 -- the news are learnt; without a solve to work on nothing changes
@@ -95,7 +95,7 @@ abbrev pub accepted : State → Call → Reply → State
 accepted s (Vars k) answer = with_problem (grown k s.problem) s
 accepted s (Add c) answer = with_problem (with_clause c s.problem) s
 accepted s NewGuard answer = with_problem (with_guard s.problem) s
-accepted s (Under g c) answer = with_problem (with_pair g c s.problem) s
+accepted s (Under gs c) answer = with_problem (with_group gs c s.problem) s
 accepted s (DropGuard g) answer = dropped g s
 accepted s (Assume ls) answer = assuming ls s
 accepted s (LoadCnf bytes) answer = with_problem (with_file (loaded bytes) s.problem) s

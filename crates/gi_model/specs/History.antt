@@ -39,7 +39,7 @@ abbrev pub Answers : State → Call → Reply → Type 0
 Answers s (Vars k) answer = answer ≡ reply.Vars (max s.problem.vars k)
 Answers s (Add c) answer = answer ≡ reply.Done
 Answers s NewGuard answer = answer ≡ reply.Guard (next_guard s.problem)
-Answers s (Under g c) answer = answer ≡ reply.Done
+Answers s (Under gs c) answer = answer ≡ reply.Done
 Answers s (DropGuard g) answer = answer ≡ reply.Done
 Answers s (Assume ls) answer = answer ≡ reply.Done
 Answers s Test answer = AnswersTest s answer

@@ -4,7 +4,8 @@ use Rattle.gi_lit.specs.Lists.{IsSublist}
 use Rattle.gi_lit.specs.Truth.{Satisfies, Fail}
 use Rattle.gi_lit.specs.Problem.{Problem, force, clause_count, lit_count, IsAssumable, IsLiveVar, IsWellFormed}
 use Rattle.gi_lit.specs.Learnt.{IsImplied}
-use Rattle.gi_model.specs.Limits.{most_vars, most_clauses, most_lits, most_pending, most_scopes, most_solves}
+use Rattle.gi_model.specs.Limits.{most_clauses, most_lits, most_pending, most_scopes, most_solves}
+use Rattle.gi_lit.specs.Literals.{max_var}
 use Rattle.gi_model.specs.State.{State, Scope, Found, listed, failing, listed_in, Run, Solve, no_solve, running, paused, ended, scope_assumed}
 use Rattle.gi_model.specs.Tests.{IsListed}
 use Rattle.gi_model.specs.declared.replies.Verdict.{Verdict}
@@ -27,11 +28,12 @@ abbrev pub AreScopesSound : Problem → List ℕ → List ℕ → List Scope →
 AreScopesSound p given earlier [] = Unit {0}
 AreScopesSound p given earlier (sc ∷ scs) = IsFoundSound p (given ++ sc.assumed) earlier sc.found × AreScopesSound p (given ++ sc.assumed) (earlier ++ listed_in sc.found) scs
 
--- a solve under way is the last that was started, and has some of its budget left
+-- a solve under way is the last that was started, has some of its budget left, and has learnt something in each slice
 pub record IsRunSound (serial : ℕ) (r : Run) : Type 0 where
   pub low : 1 ≤ r.serial
   pub last : r.serial ≡ serial
   pub left : r.spent < r.budget
+  pub slices : r.slices ≤ r.spent
 
 -- a model has a value for each variable and satisfies the plain clauses; a failing set fails
 abbrev pub IsVerdictSound : Problem → Verdict → Type 0
@@ -47,7 +49,7 @@ IsSolveSound p serial (ended n v) = (1 ≤ n) × (n ≡ serial) × IsVerdictSoun
 
 -- no limit is passed by the problem
 pub record IsProblemWithin (p : Problem) : Type 0 where
-  pub vars : p.vars ≤ most_vars
+  pub vars : p.vars ≤ max_var
   pub clauses : clause_count p ≤ most_clauses
   pub lits : lit_count p ≤ most_lits
 

@@ -1,7 +1,7 @@
 -- Laws over the definitions.
-use Rattle.std.specs.Prelude.{◌≡◌, ◌≢◌, ℕ, ◌/◌, true, Some, List, [], ◌∷◌, ◌++◌, All}
+use Rattle.std.specs.Prelude.{◌≡◌, ◌≢◌, ℕ, ◌/◌, true, Some, List, [], ◌∷◌, ◌++◌, All, Contains}
 use Rattle.gi_lit.specs.Truth.{IsConsequence}
-use Rattle.gi_lit.specs.Problem.{Pair, force, full}
+use Rattle.gi_lit.specs.Problem.{Group, force, full}
 use Rattle.gi_lit.specs.Learnt.{IsImplied}
 use Rattle.gi_model.specs.State.{State, opening, scope_assumed, phase_of}
 use Rattle.gi_model.specs.Fits.{fits}
@@ -39,7 +39,7 @@ IsWithout g ls = All (λ l. l / 2 ≢ g) ls
 
 -- nothing is left that names the guard
 pub record IsClean (s : State) (g : ℕ) : Type 0 where
-  pub pairs : All (λ (q : Pair). q.guard ≢ g) s.problem.pairs
+  pub groups : All (λ (q : Group). ¬ Contains q.guards g) s.problem.groups
   pub clauses : All (IsWithout g) (full s.problem)
   pub known : All (IsWithout g) s.known
   pub pending : IsWithout g s.pending

@@ -1,4 +1,5 @@
 pub mod Limits
+pub mod Luby
 pub mod State
 pub mod Fits
 pub mod Loads

@@ -1,15 +1,11 @@
 -- How much a machine holds.
 use Rattle.std.specs.Prelude.{ℕ, ◌^◌}
 
--- variables, guards among them
-abbrev pub most_vars : ℕ
-most_vars = 1048576
-
--- plain clauses and clauses under guards together
+-- plain clauses and groups together
 abbrev pub most_clauses : ℕ
 most_clauses = 4194304
 
--- their literals as given, guards left out
+-- their literals as given: for a group those of its clause, and one for each guard after the first
 abbrev pub most_lits : ℕ
 most_lits = 67108864
 

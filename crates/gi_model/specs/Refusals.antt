@@ -1,8 +1,9 @@
 -- The refusal table: which refusal a call meets in a state, if any.
 use Rattle.std.specs.Prelude.{ℕ, ◌+◌, ◌*◌, Bool, true, false, not, ◌&&◌, ◌||◌, nat_lt, nat_le, if◌then◌else◌, Option, Some, None, List, [], ◌∷◌, length, ◌==◌}
 use Rattle.std.specs.List.{list_any}
-use Rattle.gi_lit.specs.Problem.{Problem, has, is_usable, is_guard_lit, lit_count, clause_count, top}
-use Rattle.gi_model.specs.Limits.{most_vars, most_clauses, most_lits, most_pending, most_scopes, most_solves}
+use Rattle.gi_lit.specs.Problem.{Problem, has, is_usable, is_guard_lit, as_given, lit_count, clause_count, top}
+use Rattle.gi_model.specs.Limits.{most_clauses, most_lits, most_pending, most_scopes, most_solves}
+use Rattle.gi_lit.specs.Literals.{max_var}
 use Rattle.gi_model.specs.Loads.{loaded, file_clauses, with_file, bad_payload}
 use Rattle.gi_model.specs.State.{State, Scope, Solve, no_solve, running, paused, ended, Life, alive, shut, dead, scope_listed}
 use Rattle.gi_model.specs.declared.calls.Call.{Call}
@@ -37,7 +38,7 @@ abbrev pub while_paused : Call → Bool
 while_paused (Vars k) = true
 while_paused (Add c) = true
 while_paused NewGuard = true
-while_paused (Under g c) = true
+while_paused (Under gs c) = true
 while_paused (DropGuard g) = true
 while_paused call = while_running call
 
@@ -60,15 +61,15 @@ some_unusable p ls = list_any (λ l. not (is_usable p l)) ls
 -- Lit: a literal is neither of a problem variable nor of one that isn't there yet; Assume also takes an active guard's positive one
 abbrev pub has_bad_lit : Problem → Call → Bool
 has_bad_lit p (Add c) = some_unusable p c
-has_bad_lit p (Under g c) = some_unusable p c
+has_bad_lit p (Under gs c) = some_unusable p c
 has_bad_lit p (Assume ls) = list_any (λ l. not (is_usable p l || is_guard_lit p l)) ls
 has_bad_lit p (Reasons m) = not (is_usable p m)
 has_bad_lit p (LoadCnf bytes) = list_any (some_unusable p) (file_clauses (loaded bytes))
 has_bad_lit p call = false
 
--- NotGuard: the named guard isn't active
+-- NotGuard: a named guard isn't active
 abbrev pub is_not_guard : Problem → Call → Bool
-is_not_guard p (Under g c) = not (has p.active g)
+is_not_guard p (Under gs c) = list_any (λ g. not (has p.active g)) gs
 is_not_guard p (DropGuard g) = not (has p.active g)
 is_not_guard p call = false
 
@@ -84,21 +85,21 @@ abbrev pub is_held : State → Call → Bool
 is_held s (DropGuard g) = has s.pending (2 * g) || has (paused_assumed s.solve) (2 * g)
 is_held s call = false
 
--- one clause more, with these literals, would be too much
-abbrev pub is_full : Problem → List ℕ → Bool
-is_full p c = nat_lt most_vars (top c) || nat_lt most_clauses (clause_count p + 1) || nat_lt most_lits (lit_count p + length c)
+-- one clause more, of these literals and with so many as given, would be too much
+abbrev pub is_full : Problem → List ℕ → ℕ → Bool
+is_full p c lits = nat_lt max_var (top c) || nat_lt most_clauses (clause_count p + 1) || nat_lt most_lits (lit_count p + lits)
 
 -- the problem is greater than a machine may hold
 abbrev pub is_past : Problem → Bool
-is_past p = nat_lt most_vars p.vars || nat_lt most_clauses (clause_count p) || nat_lt most_lits (lit_count p)
+is_past p = nat_lt max_var p.vars || nat_lt most_clauses (clause_count p) || nat_lt most_lits (lit_count p)
 
 -- Limit: the call would pass a limit
 abbrev pub is_beyond : State → Call → Bool
-is_beyond s (Vars k) = nat_lt most_vars k
-is_beyond s (Add c) = is_full s.problem c
-is_beyond s NewGuard = (length s.problem.freed == 0) && nat_le most_vars s.problem.vars
-is_beyond s (Under g c) = is_full s.problem c
-is_beyond s (Assume ls) = nat_lt most_vars (top ls) || nat_lt most_pending (length s.pending + length ls)
+is_beyond s (Vars k) = nat_lt max_var k
+is_beyond s (Add c) = is_full s.problem c (length c)
+is_beyond s NewGuard = (length s.problem.freed == 0) && nat_le max_var s.problem.vars
+is_beyond s (Under gs c) = is_full s.problem c (as_given (record { guards = gs; clause = c }))
+is_beyond s (Assume ls) = nat_lt max_var (top ls) || nat_lt most_pending (length s.pending + length ls)
 is_beyond s Test = nat_le most_scopes (length s.scopes)
 is_beyond s (Start budget) = nat_le most_solves s.serial
 is_beyond s (LoadCnf bytes) = is_past (with_file (loaded bytes) s.problem)

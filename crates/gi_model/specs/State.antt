@@ -15,12 +15,13 @@ pub record Scope : Type 0 where
   pub assumed : List ℕ
   pub found : Found
 
--- a solve under way: its serial, its assumptions, how many clauses it may learn, and how many it has learnt
+-- a solve under way: its serial, its assumptions, how many clauses it may learn, how many it has learnt, and in how many slices of work
 pub record Run : Type 0 where
   pub serial : ℕ
   pub assumed : List ℕ
   pub budget : ℕ
   pub spent : ℕ
+  pub slices : ℕ
 
 -- the solve
 pub data Solve : Type 0 where

@@ -1,10 +1,8 @@
 ghost use Rattle.std.specs.Prelude.{◌≡◌};
 
-use gi_lit::{Lit, Lits, Var};
+use crate::limits::MAX_PAYLOAD;
+use gi_lit::{Guards, Lit, Lits, Var};
 use gi_text::Bytes;
-
-/// The most bytes that a payload has.
-pub const MAX_PAYLOAD: usize = 16_777_216;
 
 /// A call to the machine.
 #[derive(Drop)]
@@ -15,9 +13,9 @@ pub enum Call {
     Add(Lits),
     /// A guard, also called an activation literal.
     NewGuard,
-    /// One more clause, which is in force only where the guard is assumed.
-    Under(Var, Lits),
-    /// Takes the guard away, and all clauses under it.
+    /// One more clause, which is in force only where all the guards are assumed.
+    Under(Guards, Lits),
+    /// Takes the guard away, and all clauses that name it among their guards.
     DropGuard(Var),
     /// Assumptions for the next test or solve.
     Assume(Lits),
@@ -59,13 +57,14 @@ pub enum Call {
 impl Call {
     ghost use Rattle.gi_model.specs.Fits.{fits};
 
-    /// Whether a caller may make this call: any but a solve with no budget, a payload of more than
-    /// `MAX_PAYLOAD` bytes, and but `Work`, which the machine's own workers alone enter.
+    /// Whether a caller may make this call: any but a clause under no guard, a solve with no budget, a payload
+    /// of more than `MAX_PAYLOAD` bytes, and but `Work`, which the machine's own workers alone enter.
     pub fn fits(&self) -> bool
         ensures { result ≡ fits self.now }
     {
         match self {
             Call::Solve(0) | Call::Work(_) => false,
+            Call::Under(guards, _) => !guards.is_empty(),
             Call::LoadCnf(bytes) => bytes.as_slice().len() <= MAX_PAYLOAD,
             _ => true,
         }

@@ -47,7 +47,8 @@ pub fn histories_go_on()
     ensures state { StatesGoOn }
 {}
 
-/// Over n variables a solve learns at most 3^n clauses, while no edit is accepted.
+/// While no edit is accepted a solve over n variables learns at most 3^n clauses, to its end; at most 3^n slices
+/// of work leave it live; and with a greater budget it never ends for want of budget.
 pub fn solves_are_short()
     ensures { SolvesAreShort }
 {}

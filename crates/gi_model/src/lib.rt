@@ -4,20 +4,28 @@
 mod calls;
 mod check;
 mod entry;
+mod kinds;
 mod laws;
+mod limits;
+mod pacing;
 mod phase;
 mod refusal;
 mod replies;
 #[cfg(test)]
 mod tests;
 
-pub use calls::{Call, MAX_PAYLOAD};
+pub use calls::Call;
 pub use check::check_model;
 pub use entry::EntryRef;
 pub use laws::{
     calls_may_come, guards_are_clean, histories_are_kept, histories_go_on, learnt_clauses_are_told,
     reasons_show, refusals_are_named, solves_are_short,
 };
+pub use limits::{
+    MAX_CLAUSES, MAX_LITS, MAX_NEWS, MAX_PAYLOAD, MAX_PENDING, MAX_SCOPES, MAX_SOLVES,
+    MAX_UNTRIMMED,
+};
+pub use pacing::luby;
 pub use phase::Phase;
 pub use refusal::{PayloadCode, Refusal};
 pub use replies::{Cause, Now, Reply, Status, Verdict, Why};

@@ -25,7 +25,7 @@ pub enum Refusal {
     Scoped,
     /// A literal is of a guard.
     Lit,
-    /// The named guard isn't active.
+    /// A named guard isn't active.
     NotGuard,
     /// The guard to drop is assumed.
     Held,

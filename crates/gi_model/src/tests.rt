@@ -1,5 +1,5 @@
-use crate::{Call, Refusal, check_model};
-use gi_lit::{Assign, Clauses, Lit, Lits};
+use crate::{Call, Refusal, check_model, luby};
+use gi_lit::{Assign, Clauses, Guards, Lit, Lits};
 use std::alloc::{AllocError, Global};
 use std::test::Fail;
 
@@ -37,6 +37,7 @@ fn calls_that_fit(rt: HostRuntime) {
     assert!(rt; Call::Wait.fits());
     assert!(rt; !Call::Solve(0).fits());
     assert!(rt; !Call::Work(0).fits());
+    assert!(rt; !Call::Under(Guards::new(rt.alloc()), Lits::new(rt.alloc())).fits());
 }
 
 #[test]
@@ -58,5 +59,21 @@ fn numbers_of_refusals(rt: HostRuntime) {
         (Refusal::NoClause, 14),
     ] {
         assert_eq!(rt; refusal.number(), number);
+    }
+}
+
+#[test]
+fn luby_numbers(rt: HostRuntime) {
+    for (place, number) in [
+        (0, 1),
+        (1, 1),
+        (2, 2),
+        (3, 1),
+        (4, 1),
+        (5, 2),
+        (6, 4),
+        (14, 8),
+    ] {
+        assert_eq!(rt; luby(place), number);
     }
 }
