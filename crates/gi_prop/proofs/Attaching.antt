@@ -1,15 +1,15 @@
-use Rattle.std.proofs.Common.{◌≡◌, ◌≢◌, ℕ, ◌+◌, ◌*◌, ◌/◌, ◌<◌, ◌≤◌, Option, Some, None, List, [], ◌++◌, length, get_or, set, replicate, sym, ap, ◌∙◌, subst, arith, inl, inr}
-use Rattle.std.specs.List.{All}
+use Rattle.std.proofs.Common.{◌≡◌, ◌≢◌, ℕ, ◌+◌, ◌-◌, ◌*◌, ◌/◌, ◌<◌, ◌≤◌, Option, Some, None, List, [], ◌++◌, length, get_or, set, replicate, sym, ap, ◌∙◌, subst, arith, inl, inr}
+use Rattle.std.specs.List.{All, Contains}
 use Rattle.std.specs.Prelude.{◌↔◌}
 use Rattle.std.proofs.lemmas.Bool.{cases_eq}
 use Rattle.std.proofs.lemmas.List.{append-nil}
 use Rattle.std.proofs.lemmas.List.Elements.{All-contains}
-use Rattle.gi_lit.specs.Literals.{IsLiteral}
+use Rattle.gi_lit.specs.Literals.{max_var, IsLiteral}
 use Rattle.gi_store.specs.Held.{Held, Holds, IsWithin}
 use Rattle.gi_chains.specs.Lists.{Lists, IsFree, IsApart}
 use Rattle.gi_prop.specs.Assigned.{Assigned}
 use Rattle.gi_prop.specs.Attached.{Attached, IsAttached, Goes, HasSameKeys, HasWatches, KeepsWatches, HasTwoLeft, Attaches}
-use Rattle.gi_prop.specs.Watched.{IsIn, IsPlaced, IsKeyed}
+use Rattle.gi_prop.specs.Watched.{IsIn, IsBlocker, IsPlaced, IsKeyed}
 use Rattle.gi_prop.specs.Watched.IsPlaced.{watched, aside}
 use Rattle.gi_prop.specs.Watching.{AreNumbered, AreLinked, AreKept, HasMore, AreHome}
 use Rattle.gi_prop.specs.Watching.AreHome.{two, rests}
@@ -32,7 +32,7 @@ free_more old new key m f list i s = let r = m.others list key (record { place =
 pub listed : (clause : List ℕ) (top lists : ℕ) → All (λ l. l / 2 ≤ top) clause → 2 * top + 3 ≤ lists → All (λ l. l + 1 < lists) clause
 listed clause top lists h le i d il = let x = h i d il in omega arith
 
-pub are_literals : (clause : List ℕ) (top n : ℕ) → All (λ l. l / 2 ≤ top) clause → top ≤ 1048576 → IsWithin n clause → All IsLiteral clause
+pub are_literals : (clause : List ℕ) (top n : ℕ) → All (λ l. l / 2 ≤ top) clause → top ≤ max_var → IsWithin n clause → All IsLiteral clause
 are_literals clause top n h le w i d il = let x = h i d il in let y = w i d il in (omega (arith, y.0), omega arith)
 
 -- where the lists of a clause's nodes are, there are lists
@@ -54,7 +54,7 @@ more_attached p q m e = record {
 -- more room, with the same keys
 module _ (p q : Attached) (m : ℕ) (e : q.slots ≡ p.slots ++ replicate m None) (first : HasMore p.first q.first) (second : HasMore p.second q.second) where
   pub goes_more : (s : Held) (t : Assigned) → Goes p s t → Goes q s t
-  goes_more s t g = goes_by q s t (λ k h. keyed_chains p.first p.second q.first q.second s t t.head t.head k first.lists second.lists (λ l x. first.kept l k x) (λ l x. second.kept l k x) (goes_keyed p s t g k ((more_attached p q m e).others k h)))
+  goes_more s t g = goes_by q s t (λ k h. keyed_chains p.first p.second q.first q.second s t t.head t.head k first.lists second.lists (λ l x. first.kept l k x) (λ l x. second.kept l k x) (first.words k) (second.words k) (goes_keyed p s t g k ((more_attached p q m e).others k h)))
 
   pub watches_more : (k : ℕ) → KeepsWatches p q k
   watches_more k = record {
@@ -116,7 +116,7 @@ module _ (p q : Attached) (m : ℕ) (first second : Lists) (x y key : ℕ) (slot
         let lb : length q.second.lists ≡ length second.lists = pb.lists in
         let ma : length p.first.lists ≤ length first.lists = a.lists in
         let mb : length p.second.lists ≤ length second.lists = b.lists in
-        keyed_chains p.first p.second q.first q.second s t t.head t.head k (omega arith) (omega arith) (λ l z. pa.others l k (a.kept l k z)) (λ l z. pb.others l k (b.kept l k z)) (goes_keyed p s t g k old)
+        keyed_chains p.first p.second q.first q.second s t t.head t.head k (omega arith) (omega arith) (λ l z. pa.others l k (a.kept l k z)) (λ l z. pb.others l k (b.kept l k z)) (pa.words k n ∙ a.words k) (pb.words k n ∙ b.words k) (goes_keyed p s t g k old)
   ])
 
   pub watches_attached : (k : ℕ) → k ≢ key → KeepsWatches p q k
@@ -148,14 +148,25 @@ module _ (p q : Attached) (m : ℕ) (first second : Lists) (x y key : ℕ) (slot
     λ h. absurd (n h),
   )
 
+-- a watch's literal blocks the other, and what is no literal's list gives no blocker
+block_of : (clause : List ℕ) (x a : ℕ) → x ≡ a + 1 → Contains clause a → IsBlocker clause (x - 1)
+block_of clause x a e h = let same : a ≡ x - 1 = omega arith in record { each = λ low. subst (Contains clause) same h }
+
+no_block : (clause : List ℕ) (x : ℕ) → x < 3 → IsBlocker clause (x - 1)
+no_block clause x lt = record { each = λ low. absurd (omega arith) }
+
+home_blocks : (lits clause : List ℕ) (x y : ℕ) → AreHome lits clause x y → IsBlocker clause (x - 1) × IsBlocker clause (y - 1)
+home_blocks lits clause x y (two a b ex ey p n m) = (block_of clause x a ex p.first, block_of clause y b ey p.second)
+home_blocks lits clause x y (rests e i n) = let lt : x < 3 = aside_low clause x i in (no_block clause x lt, no_block clause y (omega arith))
+
 -- nothing attached
 pub none_at : (slots : List (Option ℕ)) (k : ℕ) → slots ≡ [] → get_or slots k None ≡ Some k → ⊥
 none_at slots k e h = let z : None ≡ Some k = sym (ap (λ (xs : List (Option ℕ)). get_or xs k None) e) ∙ h in cc
 
-no_nodes : (chains : Lists) → chains ≡ record { lists = []; nodes = 0 } → (l k : ℕ) → IsIn chains l k → ⊥
+no_nodes : (chains : Lists) → chains ≡ record { lists = []; nodes = 0; words = [] } → (l k : ℕ) → IsIn chains l k → ⊥
 no_nodes chains e l k h = let lt : l < length chains.lists = h.stands.list in let z : length chains.lists ≡ 0 = ap (λ (c : Lists). length c.lists) e in omega arith
 
-pub kept_none : (slots : List (Option ℕ)) (first second : Lists) → slots ≡ [] → first ≡ record { lists = []; nodes = 0 } → second ≡ record { lists = []; nodes = 0 } → IsApart first → IsApart second → AreKept slots first second
+pub kept_none : (slots : List (Option ℕ)) (first second : Lists) → slots ≡ [] → first ≡ record { lists = []; nodes = 0; words = [] } → second ≡ record { lists = []; nodes = 0; words = [] } → IsApart first → IsApart second → AreKept slots first second
 kept_none slots first second e ef es fa sa = record {
   numbered = record { each = λ i k h. let z : None ≡ Some k = sym (ap (λ (xs : List (Option ℕ)). get_or xs i None) e) ∙ h in absurd (cc) };
   first_linked = record { linked = λ k h. absurd (none_at slots k e h); attached = λ k l h. absurd (no_nodes first ef l k h); apart = fa };
@@ -175,6 +186,8 @@ pub record IsAttaching (p q : Attached) (x y key : ℕ) : Type 0 where
   pub second_more : HasMore p.second second
   pub first_put : IsPut first q.first x key
   pub second_put : IsPut second q.second y key
+  pub first_word : get_or q.first.words key 0 ≡ y - 1
+  pub second_word : get_or q.second.words key 0 ≡ x - 1
 
 module _ (p q : Attached) (x y key : ℕ) (a : IsAttaching p q x y key) where
   pub attaching_kept : AreKept p.slots p.first p.second → AreKept q.slots q.first q.second
@@ -193,7 +206,7 @@ module _ (p q : Attached) (x y key : ℕ) (a : IsAttaching p q x y key) where
   attaching_attaches r e = attaches p.slots a.slots a.m key a.below a.more r q e a.is
 
   -- its clause is watched
-  pub attaching_keyed : (s : Held) (t : Assigned) (clause : List ℕ) (top : ℕ) → Holds s key clause → IsWithin t.vars clause → All (λ l. l / 2 ≤ top) clause → top ≤ 1048576 → 2 * top + 3 ≤ length a.first.lists → 2 * top + 3 ≤ length a.second.lists → AreHome t.lits clause x y → IsKeyed q.first q.second s t t.head t.head key
+  pub attaching_keyed : (s : Held) (t : Assigned) (clause : List ℕ) (top : ℕ) → Holds s key clause → IsWithin t.vars clause → All (λ l. l / 2 ≤ top) clause → top ≤ max_var → 2 * top + 3 ≤ length a.first.lists → 2 * top + 3 ≤ length a.second.lists → AreHome t.lits clause x y → IsKeyed q.first q.second s t t.head t.head key
   attaching_keyed s t clause top held within tops high lf ls home = record {
     clause = clause;
     held = held;
@@ -201,5 +214,7 @@ module _ (p q : Attached) (x y key : ℕ) (a : IsAttaching p q x y key) where
     literals = are_literals clause top t.vars tops high within;
     our_lists = listed clause top (length q.first.lists) tops (let e = a.first_put.lists in omega arith);
     their_lists = listed clause top (length q.second.lists) tops (let e = a.second_put.lists in omega arith);
+    our_blocker = subst (IsBlocker clause) (sym a.first_word) (home_blocks t.lits clause x y home).1;
+    their_blocker = subst (IsBlocker clause) (sym a.second_word) (home_blocks t.lits clause x y home).0;
     placed = home_placed q.first q.second t t.head t.head key clause x y a.first_put.there a.second_put.there home;
   }

@@ -16,10 +16,11 @@ pub record IsDropped (old new : Lists) (node : ℕ) : Type 0 where
   pub others : (l k : ℕ) → k ≢ node → IsIn old l k → IsIn new l k
   pub came : (l k : ℕ) → IsIn new l k → (k ≢ node) × IsIn old l k
   pub lists : length new.lists ≡ length old.lists
+  pub words : (k : ℕ) → get_or new.words k 0 ≡ get_or old.words k 0
   pub apart : IsApart new
 
 -- a node goes from place i of list f
-module _ (lists : List (List ℕ)) (n : ℕ) (apart : IsApart (record { lists = lists; nodes = n })) (f i k : ℕ) (s : StandsAt lists f i k) where
+module _ (lists : List (List ℕ)) (n : ℕ) (words : List ℕ) (apart : IsApart (record { lists = lists; nodes = n; words = words })) (f i k : ℕ) (s : StandsAt lists f i k) where
   abbrev xs : List ℕ
   xs = items_at lists f
 
@@ -85,9 +86,10 @@ module _ (lists : List (List ℕ)) (n : ℕ) (apart : IsApart (record { lists = 
 
 pub dropped_is : (old now : Lists) (f node : ℕ) → IsApart old → IsIn old f node → ((l i : ℕ) → StandsAt old.lists l i node → now ≡ with_list old l (remove (items_at old.lists l) i)) → IsApart now → IsDropped old now node
 dropped_is old now f node apart h after apart' = record {
-  others = λ l k ne x. let r = cut_stays old.lists old.nodes apart f h.place node h.stands l x.place k ne x.stands in record { place = r.0; stands = subst (λ (z : Lists). StandsAt z.lists l r.0 k) (sym e) r.1 };
-  came = λ l k x. let r = cut_came old.lists old.nodes apart f h.place node h.stands l x.place k (subst (λ (z : Lists). StandsAt z.lists l x.place k) e x.stands) in (r.0, record { place = r.1.0; stands = r.1.1 });
+  others = λ l k ne x. let r = cut_stays old.lists old.nodes old.words apart f h.place node h.stands l x.place k ne x.stands in record { place = r.0; stands = subst (λ (z : Lists). StandsAt z.lists l r.0 k) (sym e) r.1 };
+  came = λ l k x. let r = cut_came old.lists old.nodes old.words apart f h.place node h.stands l x.place k (subst (λ (z : Lists). StandsAt z.lists l x.place k) e x.stands) in (r.0, record { place = r.1.0; stands = r.1.1 });
   lists = ap (λ (z : Lists). length z.lists) e ∙ length-set old.lists f (remove (items_at old.lists f) h.place);
+  words = λ k. ap (λ (z : Lists). get_or z.words k 0) e;
   apart = apart';
 }
   where
@@ -114,7 +116,7 @@ module _ (p q : Attached) (key : ℕ) (lt : key < length p.slots) (is : q.slots 
       let r = slot_from p.slots key lt k (ap (λ (xs : List (Option ℕ)). get_or xs k None) (sym is) ∙ attached_at q k h) in
       let la : length q.first.lists ≡ length p.first.lists = a.lists in
       let lb : length q.second.lists ≡ length p.second.lists = b.lists in
-      keyed_chains p.first p.second q.first q.second s t t.head t.head k (omega arith) (omega arith) (λ l x. a.others l k r.0 x) (λ l x. b.others l k r.0 x) (goes_keyed p s t g k (attached_by p k r.1)))
+      keyed_chains p.first p.second q.first q.second s t t.head t.head k (omega arith) (omega arith) (λ l x. a.others l k r.0 x) (λ l x. b.others l k r.0 x) (a.words k) (b.words k) (goes_keyed p s t g k (attached_by p k r.1)))
 
   pub watches_drop : (k : ℕ) → k ≢ key → KeepsWatches p q k
   watches_drop k n = record {

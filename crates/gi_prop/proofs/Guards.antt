@@ -1,4 +1,4 @@
-use Rattle.std.proofs.Common.{◌≡◌, ◌≢◌, ℕ, ◌+◌, ◌<◌, ◌≤◌, Bool, true, false, List, [], ◌∷◌, ◌++◌, length, take, get_or, refl, sym, ap, ◌∙◌, subst, arith, ◌⊎◌, inl, inr, length-append, nat_eq}
+use Rattle.std.proofs.Common.{◌≡◌, ◌≢◌, ℕ, ◌+◌, ◌/◌, ◌<◌, ◌≤◌, Bool, true, false, List, [], ◌∷◌, ◌++◌, length, take, get_or, refl, sym, ap, ◌∙◌, subst, arith, ◌⊎◌, inl, inr, length-append, nat_eq}
 use Rattle.std.specs.List.{Contains, list_any}
 use Rattle.std.proofs.lemmas.Bool.{cases_lt, eqb-true, eq-eqb, both_ways}
 use Rattle.std.proofs.lemmas.List.{get_or-take, get_or_default, get_or_append_left, get_or_push, length-take-le, length-take}
@@ -8,7 +8,8 @@ use Rattle.std.proofs.lemmas.Map.Views.{Contains-from_any}
 use Rattle.gi_lit.specs.Literals.{opposite}
 use Rattle.gi_lit.specs.Closure.{IsSettled}
 use Rattle.gi_lit.specs.Closure.IsSettled.{has_true, has_two}
-use Rattle.gi_prop.specs.Assigned.{Assigned, AreLevels, with_level, cut_at}
+use Rattle.gi_lit.proofs.Literals.{var-opposite}
+use Rattle.gi_prop.specs.Assigned.{Assigned, IsTrail, IsLate, AreLevels, with_level, cut_at}
 use Rattle.gi_prop.specs.Watched.{HasTrueWith, IsGuarded, IsPair}
 
 -- a literal stands in a list or not
@@ -112,3 +113,24 @@ guarded_less t head less clause w le g = record { each = λ p ph. g.each p (omeg
 -- how much of it was looked at now is no part of it
 pub guarded_as : (t u : Assigned) (head n : ℕ) (clause : List ℕ) (w : ℕ) → u ≡ record t { head = n } → IsGuarded t head clause w → IsGuarded u head clause w
 guarded_as t u head n clause w e g = subst (λ (z : Assigned). IsGuarded z head clause w) (sym e) (record { each = λ p ph pl q. let r = g.each p ph pl q in record { at = r.at; below = r.below; stands = r.stands; stays = r.stays } })
+
+-- a watch that is true
+pub guarded_own : (t : Assigned) (head : ℕ) (clause : List ℕ) (w : ℕ) → IsTrail t → Contains t.lits w → IsGuarded t head clause w
+guarded_own t head clause w tr h = guarded_free t head clause w (λ k. tr.consistent.each w h k)
+
+-- a watch whose variable got its value late, where another literal of the clause is true
+pub guarded_late : (t : Assigned) (head : ℕ) (clause : List ℕ) (w l : ℕ) → IsTrail t → Contains clause l → Contains t.lits l → IsLate t (w / 2) → IsGuarded t head clause w
+guarded_late t head clause w l tr h k late = record {
+  each = λ p ph pl e.
+      let names : get_or t.lits p 0 / 2 ≡ get_or t.lits late.place 0 / 2 = ap (λ (x : ℕ). x / 2) e ∙ var-opposite w ∙ sym late.stands.names in
+      let same : p ≡ late.place = tr.apart p late.place pl late.stands.below names in
+      record {
+        at = k.0;
+        below = k.1;
+        stands = subst (Contains clause) (sym (get_or_default t.lits k.0 0 l k.1 ∙ k.2)) h;
+        stays = λ j jl lt.
+            let al : length t.heads ≡ length t.marks = tr.levels.aligned in
+            let below : get_or t.heads j 0 ≤ late.place = late.late j 0 (omega arith) in
+            absurd (omega arith);
+      };
+}

@@ -4,7 +4,7 @@ use Rattle.gi_store.specs.Held.{Held, IsLive, Keeps}
 use Rattle.gi_chains.specs.Lists.{Lists}
 use Rattle.gi_prop.specs.Assigned.{Assigned, AreLevels, with_level, cut_at}
 use Rattle.gi_prop.specs.Attached.{Attached, IsAttached, HasClause, Goes}
-use Rattle.gi_prop.specs.Watched.{IsGuarded, IsIn, IsPlaced, IsKeyed}
+use Rattle.gi_prop.specs.Watched.{IsGuarded, IsIn, IsBlocker, IsPlaced, IsKeyed}
 use Rattle.gi_prop.specs.Watched.IsPlaced.{watched, aside}
 use Rattle.gi_prop.proofs.Guards.{guarded_extends, guarded_level, guarded_cut}
 
@@ -21,6 +21,8 @@ keyed_trail ours theirs s t u h1 h2 k1 k2 key le f g k = record {
   literals = k.literals;
   our_lists = k.our_lists;
   their_lists = k.their_lists;
+  our_blocker = k.our_blocker;
+  their_blocker = k.their_blocker;
   placed = placed_trail ours theirs t u h1 h2 k1 k2 key k.clause (f k.clause) (g k.clause) k.placed;
 }
 
@@ -29,14 +31,16 @@ pub placed_chains : (ours theirs ours' theirs' : Lists) (t : Assigned) (h1 h2 ke
 placed_chains ours theirs ours' theirs' t h1 h2 key clause f g (watched a b x y p ga gb) = watched a b (f (a + 1) x) (g (b + 1) y) p ga gb
 placed_chains ours theirs ours' theirs' t h1 h2 key clause f g (aside l x y i) = aside l (f l x) (g l y) i
 
-pub keyed_chains : (ours theirs ours' theirs' : Lists) (s : Held) (t : Assigned) (h1 h2 key : ℕ) → length ours.lists ≤ length ours'.lists → length theirs.lists ≤ length theirs'.lists → ((l : ℕ) → IsIn ours l key → IsIn ours' l key) → ((l : ℕ) → IsIn theirs l key → IsIn theirs' l key) → IsKeyed ours theirs s t h1 h2 key → IsKeyed ours' theirs' s t h1 h2 key
-keyed_chains ours theirs ours' theirs' s t h1 h2 key le le' f g k = record {
+pub keyed_chains : (ours theirs ours' theirs' : Lists) (s : Held) (t : Assigned) (h1 h2 key : ℕ) → length ours.lists ≤ length ours'.lists → length theirs.lists ≤ length theirs'.lists → ((l : ℕ) → IsIn ours l key → IsIn ours' l key) → ((l : ℕ) → IsIn theirs l key → IsIn theirs' l key) → get_or ours'.words key 0 ≡ get_or ours.words key 0 → get_or theirs'.words key 0 ≡ get_or theirs.words key 0 → IsKeyed ours theirs s t h1 h2 key → IsKeyed ours' theirs' s t h1 h2 key
+keyed_chains ours theirs ours' theirs' s t h1 h2 key le le' f g v w k = record {
   clause = k.clause;
   held = k.held;
   within = k.within;
   literals = k.literals;
   our_lists = λ i d il. omega (arith, k.our_lists i d il);
   their_lists = λ i d il. omega (arith, k.their_lists i d il);
+  our_blocker = subst (IsBlocker k.clause) (sym v) k.our_blocker;
+  their_blocker = subst (IsBlocker k.clause) (sym w) k.their_blocker;
   placed = placed_chains ours theirs ours' theirs' t h1 h2 key k.clause f g k.placed;
 }
 
@@ -49,6 +53,8 @@ keyed_swap ours theirs s t h1 h2 key k = record {
   literals = k.literals;
   our_lists = k.their_lists;
   their_lists = k.our_lists;
+  our_blocker = k.their_blocker;
+  their_blocker = k.our_blocker;
   placed = go k.placed;
 }
   where
@@ -82,6 +88,8 @@ goes_edit p old new t g keeps live = λ k h. let c = g k h in record {
   literals = c.literals;
   our_lists = c.our_lists;
   their_lists = c.their_lists;
+  our_blocker = c.our_blocker;
+  their_blocker = c.their_blocker;
   placed = c.placed;
 }
 

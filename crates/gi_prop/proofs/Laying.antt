@@ -19,12 +19,13 @@ module _ (places : List (Option ℕ)) (values : List (Option Bool)) (lits : List
   }
 
   -- a literal more
-  pub laid_push : (l i n level : ℕ) (b : Bool) (why : Option ℕ) (new_lits : List ℕ) (new_reasons : List (Option ℕ)) (new_levels : List ℕ) (new_room new_reason_room new_level_room : ℕ)
-      → i ≡ l / 2 - 1 → n ≡ length lits → level ≡ length marks → b ≡ (l % 2 == 0) → 1 ≤ l / 2 → l / 2 ≤ length places → HasValue lits l None
+  pub laid_push : (l i n level : ℕ) (b : Bool) (place : Option ℕ) (value : Option Bool) (why : Option ℕ) (new_lits : List ℕ) (new_reasons : List (Option ℕ)) (new_levels : List ℕ) (new_room new_reason_room new_level_room : ℕ)
+      → place ≡ Some n → value ≡ Some b → i ≡ l / 2 - 1 → n ≡ length lits → level ≡ length marks → b ≡ (l % 2 == 0) → 1 ≤ l / 2 → l / 2 ≤ length places → HasValue lits l None
       → new_lits ≡ lits ++ l ∷ [] → new_reasons ≡ reasons ++ why ∷ [] → new_levels ≡ levels ++ level ∷ [] → room ≤ new_room → reason_room ≤ new_reason_room → level_room ≤ new_level_room
-      → IsLaid (set places i (Some n)) (set values i (Some b)) new_lits new_reasons new_levels marks head heads new_room new_reason_room new_level_room
-  laid_push l i n level b why new_lits new_reasons new_levels r rr lr ei en el eb big within free enl enr env ra rb rc = rw (ei, enl, enr, env) (record {
+      → IsLaid (set places i place) (set values i value) new_lits new_reasons new_levels marks head heads new_room new_reason_room new_level_room
+  laid_push l i n level b place value why new_lits new_reasons new_levels r rr lr ep ev ei en el eb big within free enl enr env ra rb rc = rw (ep, ev, ei, enl, enr, env) (record {
     table = IsTable-push places lits values h.table l n b en eb big within free;
+    few = rw length-set h.few;
     aligned = omega (arith, h.aligned, length-append lits (l ∷ []), length-append reasons (why ∷ []));
     leveled = AreLevelsOf-push lits marks levels h.leveled l level el h.begun.within;
     begun = AreLevels-push lits marks head heads h.begun l;
@@ -36,10 +37,11 @@ module _ (places : List (Option ℕ)) (values : List (Option Bool)) (lits : List
   -- variables more
   pub laid_grow : (m : ℕ) (new_places : List (Option ℕ)) (new_values : List (Option Bool)) (new_lits : List ℕ) (new_reasons : List (Option ℕ)) (new_levels : List ℕ) (new_room new_reason_room new_level_room : ℕ)
       → new_places ≡ places ++ replicate m None → new_values ≡ values ++ replicate m None → new_lits ≡ lits → new_reasons ≡ reasons → new_levels ≡ levels
-      → length places + m ≤ new_room → length places + m ≤ new_reason_room → length places + m ≤ new_level_room
+      → length places + m < 4294967296 → length places + m ≤ new_room → length places + m ≤ new_reason_room → length places + m ≤ new_level_room
       → IsLaid new_places new_values new_lits new_reasons new_levels marks head heads new_room new_reason_room new_level_room
-  laid_grow m new_places new_values new_lits new_reasons new_levels r rr lr ep ev el er ew ra rb rc = rw (ep, ev, el, er, ew) (record {
+  laid_grow m new_places new_values new_lits new_reasons new_levels r rr lr ep ev el er ew few ra rb rc = rw (ep, ev, el, er, ew) (record {
     table = IsTable-grow places lits values h.table m;
+    few = omega (arith, length-append places (replicate m None), length-replicate m (let o : Option ℕ = None in o));
     aligned = h.aligned;
     leveled = h.leveled;
     begun = h.begun;
@@ -53,6 +55,7 @@ module _ (places : List (Option ℕ)) (values : List (Option Bool)) (lits : List
       → IsLaid places values lits reasons levels new_marks head new_heads room reason_room level_room
   laid_mark n new_marks new_heads en below em eh = rw (em, eh, en) (record {
     table = h.table;
+    few = h.few;
     aligned = h.aligned;
     leveled = AreLevelsOf-mark lits marks levels h.leveled;
     begun = AreLevels-mark lits marks head heads h.begun below;
@@ -69,6 +72,7 @@ module _ (places : List (Option ℕ)) (values : List (Option Bool)) (lits : List
       → IsLaid new_places new_values new_lits new_reasons new_levels new_marks new_head new_heads new_room new_reason_room new_level_room
   laid_cut level len new_head new_places new_values new_lits new_reasons new_levels new_marks new_heads r rr lr lt elen ehead table count el er ev em eh ra rb rc = record {
     table = table;
+    few = omega (arith, h.few);
     aligned = rw (er, el, elen) (length-take-le (get_or marks level 0) reasons (rw h.aligned (h.begun.within level lt)) ∙ sym (length-take-le (get_or marks level 0) lits (h.begun.within level lt)));
     leveled = rw (el, em, ev, elen) (AreLevelsOf-cut lits marks levels h.leveled level lt (h.begun.within level lt));
     begun = rw (el, em, eh, elen, ehead) (AreLevels-cut lits marks head heads h.begun level lt);

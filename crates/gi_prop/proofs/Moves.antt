@@ -7,7 +7,7 @@ use Rattle.gi_prop.specs.Watched.{IsIn}
 use Rattle.gi_prop.specs.Watching.{moved, IsMoved, AreLinked, LeavesAside}
 
 -- one node moves from place i of list f to the front of list m
-module _ (lists : List (List ℕ)) (n : ℕ) (apart : IsApart (record { lists = lists; nodes = n })) (f i k m : ℕ) (s : StandsAt lists f i k) (ml : m < length lists) (other : m ≢ f) where
+module _ (lists : List (List ℕ)) (n : ℕ) (words : List ℕ) (apart : IsApart (record { lists = lists; nodes = n; words = words })) (f i k m : ℕ) (s : StandsAt lists f i k) (ml : m < length lists) (other : m ≢ f) where
   abbrev xs : List ℕ
   xs = items_at lists f
 
@@ -107,33 +107,33 @@ module _ (lists : List (List ℕ)) (n : ℕ) (apart : IsApart (record { lists = 
 
 -- the lists after a move
 pub items_moved : (old now : Lists) (from i to node : ℕ) → IsApart old → StandsAt old.lists from i node → to < length old.lists → to ≢ from → IsMoved old now to node → items_at now.lists from ≡ remove (items_at old.lists from) i
-items_moved old now from i to node apart s ml ne mv = ap (λ (z : Lists). items_at z.lists from) (mv.each from i s) ∙ items_f old.lists old.nodes apart from i node to s ml ne
+items_moved old now from i to node apart s ml ne mv = ap (λ (z : List (List ℕ)). items_at z from) (mv.each from i s) ∙ items_f old.lists old.nodes old.words apart from i node to s ml ne
 
 -- a node that is before the place was there
 pub before_moved : (old now : Lists) (from i to node : ℕ) → IsApart old → StandsAt old.lists from i node → to < length old.lists → to ≢ from → IsMoved old now to node → (j k : ℕ) → j < i → StandsAt now.lists from j k → StandsAt old.lists from j k × (k ≢ node)
-before_moved old now from i to node apart s ml ne mv j k jl st = elim (came old.lists old.nodes apart from i node to s ml ne from j k (subst (λ (z : Lists). StandsAt z.lists from j k) (mv.each from i s) st)) [
+before_moved old now from i to node apart s ml ne mv j k jl st = elim (came old.lists old.nodes old.words apart from i node to s ml ne from j k (subst (λ (z : List (List ℕ)). StandsAt z from j k) (mv.each from i s) st)) [
   | inl r ↦ absurd (ne (sym r.1))
   | inr r ↦ (subst (λ (z : ℕ). StandsAt old.lists from z k) (r.1.2 refl jl) r.1.1, r.0)
 ]
 
 module _ (old new : Lists) (from to node : ℕ) (apart : IsApart old) (here : IsIn old from node) (ml : to < length old.lists) (ne : to ≢ from) (mv : IsMoved old new to node) where
-  abbrev is : new ≡ record old { lists = moved old.lists from here.place to node }
+  abbrev is : new.lists ≡ moved old.lists from here.place to node
   is = mv.each from here.place here.stands
 
   pub moved_there : IsIn new to node
-  moved_there = record { place = 0; stands = subst (λ (z : Lists). StandsAt z.lists to 0 node) (sym is) (now_there old.lists old.nodes apart from here.place node to here.stands ml ne) }
+  moved_there = record { place = 0; stands = subst (λ (z : List (List ℕ)). StandsAt z to 0 node) (sym is) (now_there old.lists old.nodes old.words apart from here.place node to here.stands ml ne) }
 
   pub moved_stays : (list k : ℕ) → k ≢ node → IsIn old list k → IsIn new list k
-  moved_stays list k n h = let r = stays old.lists old.nodes apart from here.place node to here.stands ml ne list h.place k n h.stands in record { place = r.0; stands = subst (λ (z : Lists). StandsAt z.lists list r.0 k) (sym is) r.1 }
+  moved_stays list k n h = let r = stays old.lists old.nodes old.words apart from here.place node to here.stands ml ne list h.place k n h.stands in record { place = r.0; stands = subst (λ (z : List (List ℕ)). StandsAt z list r.0 k) (sym is) r.1 }
 
   pub moved_came : (list k : ℕ) → IsIn new list k → ((k ≡ node) × (list ≡ to)) ⊎ ((k ≢ node) × IsIn old list k)
-  moved_came list k h = elim (came old.lists old.nodes apart from here.place node to here.stands ml ne list h.place k (subst (λ (z : Lists). StandsAt z.lists list h.place k) is h.stands)) [
+  moved_came list k h = elim (came old.lists old.nodes old.words apart from here.place node to here.stands ml ne list h.place k (subst (λ (z : List (List ℕ)). StandsAt z list h.place k) is h.stands)) [
     | inl r ↦ inl r
     | inr r ↦ inr (r.0, record { place = r.1.0; stands = r.1.1 })
   ]
 
   pub moved_length : length new.lists ≡ length old.lists
-  moved_length = ap (λ (z : Lists). length z.lists) is ∙ length-set _ to _ ∙ length-set old.lists from _
+  moved_length = ap length is ∙ length-set _ to _ ∙ length-set old.lists from _
 
   pub moved_linked : (slots : List (Option ℕ)) → AreLinked slots old → AreLinked slots new
   moved_linked slots l = record {
@@ -161,6 +161,20 @@ aside_same old = record { each = λ list k low h. h }
 
 pub aside_on : (a b c : Lists) → LeavesAside a b → LeavesAside b c → LeavesAside a c
 aside_on a b c x y = record { each = λ list k low h. x.each list k low (y.each list k low h) }
+
+-- the lists as they were
+pub in_kept : (old new : Lists) → new.lists ≡ old.lists → (list k : ℕ) → IsIn old list k → IsIn new list k
+in_kept old new e list k h = record { place = h.place; stands = subst (λ (z : List (List ℕ)). StandsAt z list h.place k) (sym e) h.stands }
+
+pub aside_kept : (a b c : Lists) → LeavesAside a b → c.lists ≡ b.lists → LeavesAside a c
+aside_kept a b c x e = record { each = λ list k low h. x.each list k low (in_kept c b (sym e) list k h) }
+
+pub linked_kept : (slots : List (Option ℕ)) (old new : Lists) → new.lists ≡ old.lists → IsApart new → AreLinked slots old → AreLinked slots new
+linked_kept slots old new e apart l = record {
+  linked = λ k h. let r = l.linked k h in (r.0, in_kept old new e r.0 k r.1);
+  attached = λ k list h. l.attached k list (in_kept new old (sym e) list k h);
+  apart = apart;
+}
 
 -- a node stands in one list
 pub one_list : (c : Lists) (l m k : ℕ) → IsApart c → IsIn c l k → IsIn c m k → l ≡ m

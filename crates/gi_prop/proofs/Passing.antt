@@ -5,17 +5,16 @@ use Rattle.std.proofs.lemmas.Bool.{cases_eq, cases_lt}
 use Rattle.std.proofs.lemmas.List.Elements.{All-contains, Contains-append_left}
 use Rattle.gi_lit.specs.Literals.{opposite, IsLiteral}
 use Rattle.gi_store.specs.Held.{Held, Holds, IsWithin}
-use Rattle.gi_chains.specs.Lists.{Lists, items_at, StandsAt}
+use Rattle.gi_chains.specs.Lists.{Lists, items_at, StandsAt, IsApart}
 use Rattle.gi_prop.specs.Assigned.{Assigned, IsTrail, HasValue, with_lit}
 use Rattle.gi_prop.specs.Attached.{AddsForced, keys_alone}
-use Rattle.gi_prop.specs.Watched.{IsIn, IsPair, IsPlaced, IsKeyed}
+use Rattle.gi_prop.specs.Watched.{IsGuarded, IsIn, IsPair, IsBlocker, IsPlaced, IsKeyed}
 use Rattle.gi_prop.specs.Watched.IsPlaced.{watched, aside}
-use Rattle.gi_prop.specs.Watching.{IsWatched, IsAdded, IsMoved, LeavesAside, IsOnlyTrue, IsPassed, ArePassed}
+use Rattle.gi_prop.specs.Watching.{IsWatched, IsAdded, IsMoved, LeavesAside, IsPassed, ArePassed}
 use Rattle.gi_prop.specs.Steps.{AreOthersFalse}
-use Rattle.gi_prop.proofs.Guards.{guarded_free}
 use Rattle.gi_prop.proofs.Moves.{one_list, moved_there, moved_stays, moved_length, moved_linked, moved_aside, aside_on, before_moved}
 use Rattle.gi_prop.proofs.Keys.{keyed_chains}
-use Rattle.gi_prop.proofs.Settling.{watched_push, last_true}
+use Rattle.gi_prop.proofs.Settling.{watched_push}
 use Rattle.gi_prop.proofs.Visiting.{IsWalking, standing, walked_past, walk_on, walk_gone, added_on}
 
 -- a clause that watches nothing
@@ -48,8 +47,8 @@ at_aside slots first second s t h1 h2 list key w low here = let k = w.keyed key 
           there = subst (λ (z : ℕ). IsIn second z key) same y;
         }
 
--- both nodes go to the lists of two literals that aren't false
-module _ (slots : List (Option ℕ)) (first second first' second' : Lists) (s : Held) (t : Assigned) (head list node : ℕ) (w : IsWatched slots first second s t head head) (low : list < 3) (here : IsIn first list node) (at : IsAtAside first second s t list node) (a b : ℕ) (pair : IsPair at.clause a b) (a_left : ¬ Contains t.lits (opposite a)) (b_left : ¬ Contains t.lits (opposite b)) where
+-- both nodes go to the lists of two literals that are guarded
+module _ (slots : List (Option ℕ)) (first second first' second' : Lists) (s : Held) (t : Assigned) (head list node : ℕ) (w : IsWatched slots first second s t head head) (low : list < 3) (here : IsIn first list node) (at : IsAtAside first second s t list node) (a b : ℕ) (pair : IsPair at.clause a b) (a_guarded : IsGuarded t head at.clause a) (b_guarded : IsGuarded t head at.clause b) where
   pub first_exists : a + 1 < length first.lists
   first_exists = All-contains (λ l. l + 1 < length first.lists) at.clause a at.first_lists pair.first
 
@@ -68,7 +67,7 @@ module _ (slots : List (Option ℕ)) (first second first' second' : Lists) (s : 
   second_ne : b + 1 ≢ list
   second_ne e = let x = second_big in absurd (omega arith)
 
-  module _ (ma : IsMoved first first' (a + 1) node) (mb : IsMoved second second' (b + 1) node) where
+  module _ (ma : IsMoved first first' (a + 1) node) (mb : IsMoved second second' (b + 1) node) (wa : get_or first'.words node 0 ≡ b) (wb : get_or second'.words node 0 ≡ a) where
     pub promoted : IsWatched slots first' second' s t head head
     promoted = record {
       kept = record {
@@ -82,7 +81,7 @@ module _ (slots : List (Option ℕ)) (first second first' second' : Lists) (s : 
         | inr n ↦ keyed_chains first second first' second' s t head head k (omega (arith, len)) (omega (arith, len'))
             (λ l x. moved_stays first first' list (a + 1) node w.kept.first_linked.apart here first_exists first_ne ma l k n x)
             (λ l x. moved_stays second second' list (b + 1) node w.kept.second_linked.apart at.there second_exists second_ne mb l k n x)
-            (w.keyed k h)
+            (ma.words k n) (mb.words k n) (w.keyed k h)
       ];
     }
       where
@@ -100,7 +99,9 @@ module _ (slots : List (Option ℕ)) (first second first' second' : Lists) (s : 
           literals = at.literals;
           our_lists = λ i d il. rw len (at.first_lists i d il);
           their_lists = λ i d il. rw len' (at.second_lists i d il);
-          placed = watched a b (moved_there first first' list (a + 1) node w.kept.first_linked.apart here first_exists first_ne ma) (moved_there second second' list (b + 1) node w.kept.second_linked.apart at.there second_exists second_ne mb) pair (guarded_free t head at.clause a a_left) (guarded_free t head at.clause b b_left);
+          our_blocker = subst (IsBlocker at.clause) (sym wa) (record { each = λ low. pair.second });
+          their_blocker = subst (IsBlocker at.clause) (sym wb) (record { each = λ low. pair.first });
+          placed = watched a b (moved_there first first' list (a + 1) node w.kept.first_linked.apart here first_exists first_ne ma) (moved_there second second' list (b + 1) node w.kept.second_linked.apart at.there second_exists second_ne mb) pair a_guarded b_guarded;
         }
 
     pub promoted_aside : LeavesAside second second'
@@ -111,14 +112,9 @@ pub some_true : (lits : List ℕ) (l : ℕ) (v : Bool) → HasValue lits l (Some
 some_true lits l true h n = h
 some_true lits l false h n = absurd (n h)
 
--- a literal that was added is true, and the others are false still
-pub only_pushed : (t u : Assigned) (clause : List ℕ) (l : ℕ) (why : Option ℕ) → u ≡ with_lit l why t → Contains clause l → AreOthersFalse t.lits clause l → IsOnlyTrue u.lits clause
-only_pushed t u clause l why e stands others = record {
-  lit = l;
-  stands = stands;
-  true = last_true t u l why e;
-  others = λ k d kl. elim (others k d kl) [ inl x ↦ inl x | inr x ↦ inr (subst (λ (z : Assigned). Contains z.lits (opposite (get_or clause k d))) (sym e) (Contains-append_left t.lits (l ∷ []) _ x)) ];
-}
+-- where a literal was added the others are false still
+pub others_pushed : (t u : Assigned) (clause : List ℕ) (l : ℕ) (why : Option ℕ) → u ≡ with_lit l why t → AreOthersFalse t.lits clause l → AreOthersFalse u.lits clause l
+others_pushed t u clause l why e others = λ k d kl. elim (others k d kl) [ inl x ↦ inl x | inr x ↦ inr (subst (λ (z : Assigned). Contains z.lits (opposite (get_or clause k d))) (sym e) (Contains-append_left t.lits (l ∷ []) _ x)) ]
 
 pub forced_aside : (slots : List (Option ℕ)) (a b : Lists) (s : Held) (t u : Assigned) (l : ℕ) (why : Option ℕ) → IsWatched slots a b s t t.head t.head → u ≡ with_lit l why t → IsTrail u → IsWatched slots a b s u u.head u.head
 forced_aside slots a b s t u l why w e trail =
@@ -175,7 +171,7 @@ module _ (slots : List (Option ℕ)) (old_first old_second first second : Lists)
       second_aside = aside_on old_second second second' v.second_aside x;
       low = v.low;
       place = v.place + 1;
-      walking = walk_on first first' list at v.place v.walking next next_is q.0;
+      walking = walk_on first first' list at v.place v.walking next next_is (ap (λ (z : Lists). z.lists) q.0) (subst IsApart (sym q.0) v.walking.apart);
       done = λ j k jl st.
           let so : StandsAt first.lists list j k = subst (λ (z : Lists). StandsAt z.lists list j k) q.0 st in
           elim (cases_lt j v.place) [

@@ -1,7 +1,7 @@
 use Rattle.std.proofs.Common.{◌≡◌, ◌≢◌, ℕ, zero, suc, ◌+◌, ◌-◌, ◌<◌, ◌≤◌, List, [], ◌∷◌, ◌++◌, length, get_or, set, replicate, max, refl, sym, ap, ◌∙◌, subst, arith, ◌⊎◌, inl, inr, length-append, length-set, get_or-set_other, get_or-set_same}
 use Rattle.std.proofs.lemmas.Bool.{cases_eq, cases_lt}
 use Rattle.std.proofs.lemmas.List.{length-replicate, get_or_past}
-use Rattle.gi_chains.specs.Lists.{Lists, items_at, StandsAt, IsFree, IsApart, with_list, grown}
+use Rattle.gi_chains.specs.Lists.{Lists, items_at, StandsAt, IsFree, IsApart, with_list, with_word, grown}
 use Rattle.gi_prop.specs.Watched.{IsIn}
 use Rattle.gi_prop.specs.Watching.{HasMore}
 
@@ -41,11 +41,12 @@ more_grown old new lists nodes e apart = record {
   lists = (let x : length new.lists ≡ length (old.lists ++ replicate (lists - length old.lists) []) = ap (λ (z : Lists). length z.lists) e in omega (arith, length-append old.lists (replicate (lists - length old.lists) [])));
   kept = λ l k h. record { place = h.place; stands = subst (λ (z : Lists). StandsAt z.lists l h.place k) (sym e) (stands_more old.lists (lists - length old.lists) l h.place k h.stands) };
   others = λ l k h. record { place = h.place; stands = stood old.lists (lists - length old.lists) l h.place k (subst (λ (z : Lists). StandsAt z.lists l h.place k) e h.stands) };
+  words = λ k. ap (λ (z : Lists). get_or z.words k 0) e ∙ more_same 0 old.words (nodes - old.nodes) k;
   apart = apart;
 }
 
 pub more_same_lists : (old new : Lists) → new ≡ old → IsApart old → HasMore old new
-more_same_lists old new e apart = subst (HasMore old) (sym e) (record { lists = omega arith; kept = λ l k h. h; others = λ l k h. h; apart = apart })
+more_same_lists old new e apart = subst (HasMore old) (sym e) (record { lists = omega arith; kept = λ l k h. h; others = λ l k h. h; words = λ k. refl; apart = apart })
 
 pub grown_lists : (old new : Lists) (lists nodes : ℕ) → new ≡ grown old lists nodes → lists ≤ length new.lists
 grown_lists old new lists nodes e = let x : length new.lists ≡ length (old.lists ++ replicate (lists - length old.lists) []) = ap (λ (z : Lists). length z.lists) e in omega (arith, length-append old.lists (replicate (lists - length old.lists) []), length-replicate (lists - length old.lists) (let o : List ℕ = [] in o))
@@ -53,12 +54,13 @@ grown_lists old new lists nodes e = let x : length new.lists ≡ length (old.lis
 pub grown_node : (old new : Lists) (lists node : ℕ) → new ≡ grown old lists (node + 1) → node < new.nodes
 grown_node old new lists node e = let x : new.nodes ≡ max old.nodes (node + 1) = ap (λ (z : Lists). z.nodes) e in omega arith
 
--- a node that stood nowhere stands at the front of a list, and the others stand where they stood
+-- a node that stood nowhere stands at the front of a list, and the others stand where they stood, with their words
 pub record IsPut (old new : Lists) (list node : ℕ) : Type 0 where
   pub there : IsIn new list node
   pub others : (l k : ℕ) → IsIn old l k → IsIn new l k
   pub came : (l k : ℕ) → IsIn new l k → ((k ≡ node) × (l ≡ list)) ⊎ ((k ≢ node) × IsIn old l k)
   pub lists : length new.lists ≡ length old.lists
+  pub words : (k : ℕ) → k ≢ node → get_or new.words k 0 ≡ get_or old.words k 0
   pub apart : IsApart new
 
 module _ (old : Lists) (m key : ℕ) (ml : m < length old.lists) (free : IsFree old.lists key) where
@@ -114,18 +116,28 @@ module _ (old : Lists) (m key : ℕ) (ml : m < length old.lists) (free : IsFree 
         inr (not_key a i k t, (i, t))
   ]
 
-  pub put_is : (new : Lists) → new ≡ with_list old m (key ∷ items_at old.lists m) → IsApart new → IsPut old new m key
-  put_is new e apart = record {
-    there = record { place = zero; stands = subst (λ (z : Lists). StandsAt z.lists m zero key) (sym e) stands_put };
-    others = λ l k h. let r = stays_put l h.place k h.stands in record { place = r.0; stands = subst (λ (z : Lists). StandsAt z.lists l r.0 k) (sym e) r.1 };
-    came = λ l k h. elim (came_put l h.place k (subst (λ (z : Lists). StandsAt z.lists l h.place k) e h.stands)) [
+  pub put_is : (new : Lists) → new.lists ≡ put → ((k : ℕ) → k ≢ key → get_or new.words k 0 ≡ get_or old.words k 0) → IsApart new → IsPut old new m key
+  put_is new e words apart = record {
+    there = record { place = zero; stands = subst (λ (z : List (List ℕ)). StandsAt z m zero key) (sym e) stands_put };
+    others = λ l k h. let r = stays_put l h.place k h.stands in record { place = r.0; stands = subst (λ (z : List (List ℕ)). StandsAt z l r.0 k) (sym e) r.1 };
+    came = λ l k h. elim (came_put l h.place k (subst (λ (z : List (List ℕ)). StandsAt z l h.place k) e h.stands)) [
       | inl r ↦ inl r
       | inr r ↦ inr (r.0, record { place = r.1.0; stands = r.1.1 })
     ];
-    lists = ap (λ (z : Lists). length z.lists) e ∙ length-set old.lists m (key ∷ items_at old.lists m);
+    lists = ap length e ∙ length-set old.lists m (key ∷ items_at old.lists m);
+    words = words;
     apart = apart;
   }
 
--- the same where the node is the key's number
-pub put_as : (old now : Lists) (m key node : ℕ) → node ≡ key → m < length old.lists → IsFree old.lists key → now ≡ with_list old m (node ∷ items_at old.lists m) → IsApart now → IsPut old now m key
-put_as old now m key node e ml free after apart = put_is old m key ml free now (after ∙ ap (λ (n : ℕ). with_list old m (n ∷ items_at old.lists m)) e) apart
+-- the same where the node is the key's number, and has another word
+pub put_as : (old mid now : Lists) (m key node word : ℕ) → node ≡ key → m < length old.lists → IsFree old.lists key → mid ≡ with_list old m (node ∷ items_at old.lists m) → now ≡ with_word mid node word → IsApart now → IsPut old now m key
+put_as old mid now m key node word e ml free after worded apart = put_is old m key ml free now
+    (ap (λ (z : Lists). z.lists) worded ∙ ap (λ (z : Lists). z.lists) after ∙ ap (λ (n : ℕ). set old.lists m (n ∷ items_at old.lists m)) e)
+    (λ k ne. ap (λ (z : Lists). get_or z.words k 0) worded ∙ get_or-set_other mid.words node k word 0 (λ g. ne (g ∙ e)) ∙ ap (λ (z : Lists). get_or z.words k 0) after)
+    apart
+
+-- the word that the node has then
+pub put_word : (mid now : Lists) (key node word : ℕ) → node ≡ key → node < mid.nodes → IsApart mid → now ≡ with_word mid node word → get_or now.words key 0 ≡ word
+put_word mid now key node word e lt apart worded =
+    let long : length mid.words ≡ mid.nodes = apart.worded in
+    ap (λ (z : Lists). get_or z.words key 0) worded ∙ ap (λ (n : ℕ). get_or (set mid.words node word) n 0) (sym e) ∙ get_or-set_same mid.words node word 0 (omega arith)

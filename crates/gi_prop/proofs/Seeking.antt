@@ -1,12 +1,14 @@
-use Rattle.std.proofs.Common.{◌≡◌, ◌≢◌, ℕ, ◌+◌, ◌<◌, ◌≤◌, Option, Some, None, List, length, take, get_or, sym, ◌∙◌, subst, arith, ◌⊎◌, inl, inr}
+use Rattle.std.proofs.Common.{◌≡◌, ◌≢◌, ℕ, ◌+◌, ◌<◌, ◌≤◌, Option, Some, None, List, length, take, drop, get_or, sym, ◌∙◌, subst, arith, ◌⊎◌, inl, inr}
 use Rattle.std.specs.List.{All, Contains}
-use Rattle.std.proofs.lemmas.List.{get_or_read, take_all}
-use Rattle.std.proofs.lemmas.List.Elements.{All-more}
+use Rattle.std.specs.Option.{MatchOption}
+use Rattle.std.proofs.lemmas.List.{get_or_read, take_all, take-append-drop}
+use Rattle.std.proofs.lemmas.List.Elements.{All-more, All-append, Contains-append_left, Contains-append_right}
 use Rattle.gi_lit.specs.Literals.{opposite}
 use Rattle.gi_lit.specs.Closure.{IsFalsified}
 use Rattle.gi_prop.specs.Watched.{IsPair, IsAside}
 use Rattle.gi_prop.specs.Watched.IsAside.{waits, single}
-use Rattle.gi_prop.specs.Steps.{AreOthersFalse}
+use Rattle.gi_prop.specs.Steps.{AreOthersFalse, IsSpare}
+use Rattle.gi_prop.specs.declared.look.Found.{Found}
 
 -- what is known of the first i literals, and of the one that isn't false
 abbrev pub LeftSoFar : List ℕ → List ℕ → ℕ → Option ℕ → Type 0
@@ -62,3 +64,15 @@ single_all clause i f le h s = single (let z : 1 ≡ 1 = omega arith in z) f h (
 -- none is left and this one is false, too
 pub all_false : (lits clause : List ℕ) (f : ℕ) → Contains lits (opposite f) → AreOthersFalse lits clause f → IsFalsified lits clause
 all_false lits clause f o h k d lt = elim (h k d lt) [ inl e ↦ subst (λ (m : ℕ). Contains lits (opposite m)) (sym e) o | inr c ↦ c ]
+
+-- what is found in a part of the clause, and that nothing is in both parts
+pub spare_behind : (lits clause part : List ℕ) (n other : ℕ) → part ≡ drop n clause → (r : Option Found) → MatchOption r (AreOthersFalse lits part other) (λ f. IsSpare lits part other (Some f.lit)) → MatchOption r (AreOthersFalse lits (drop n clause) other) (λ f. IsSpare lits clause other (Some f.lit))
+spare_behind lits clause part n other e None h = subst (λ (z : List ℕ). AreOthersFalse lits z other) e h
+spare_behind lits clause part n other e (Some f) h = (subst (λ (z : List ℕ). Contains z f.lit) (take-append-drop n clause) (Contains-append_right (take n clause) (drop n clause) f.lit (subst (λ (z : List ℕ). Contains z f.lit) e h.0)), h.1, h.2)
+
+pub spare_before : (lits clause part : List ℕ) (n other : ℕ) → part ≡ take n clause → (r : Option Found) → MatchOption r (AreOthersFalse lits part other) (λ f. IsSpare lits part other (Some f.lit)) → MatchOption r (AreOthersFalse lits (take n clause) other) (λ f. IsSpare lits clause other (Some f.lit))
+spare_before lits clause part n other e None h = subst (λ (z : List ℕ). AreOthersFalse lits z other) e h
+spare_before lits clause part n other e (Some f) h = (subst (λ (z : List ℕ). Contains z f.lit) (take-append-drop n clause) (Contains-append_left (take n clause) (drop n clause) f.lit (subst (λ (z : List ℕ). Contains z f.lit) e h.0)), h.1, h.2)
+
+pub others_joined : (lits clause : List ℕ) (n other : ℕ) → AreOthersFalse lits (take n clause) other → AreOthersFalse lits (drop n clause) other → AreOthersFalse lits clause other
+others_joined lits clause n other a b = subst (All (λ m. (m ≡ other) ⊎ Contains lits (opposite m))) (take-append-drop n clause) (All-append (λ m. (m ≡ other) ⊎ Contains lits (opposite m)) (take n clause) (drop n clause) a b)

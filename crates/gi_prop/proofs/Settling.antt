@@ -1,4 +1,4 @@
-use Rattle.std.proofs.Common.{◌≡◌, ◌≢◌, ℕ, ◌+◌, ◌-◌, ◌/◌, ◌<◌, ◌≤◌, Option, Some, None, List, [], ◌∷◌, length, get_or, refl, sym, ap, ◌∙◌, subst, arith, inl, inr, length-append}
+use Rattle.std.proofs.Common.{◌≡◌, ◌≢◌, ℕ, ◌+◌, ◌-◌, ◌/◌, ◌<◌, ◌≤◌, Option, Some, None, List, [], ◌∷◌, length, get_or, refl, sym, ap, ◌∙◌, subst, arith, inl, inr, length-append, get_or-set_other, get_or-set_same}
 use Rattle.std.specs.List.{All, Contains}
 use Rattle.std.proofs.lemmas.Bool.{cases_eq}
 use Rattle.std.proofs.lemmas.List.{get_or_push, get_or_default, get_or_append_left}
@@ -6,15 +6,15 @@ use Rattle.std.proofs.lemmas.List.Elements.{All-contains, Contains-get_or}
 use Rattle.gi_lit.specs.Literals.{opposite, IsLiteral}
 use Rattle.gi_lit.specs.Closure.{Forces}
 use Rattle.gi_store.specs.Held.{Held, Holds, IsWithin}
-use Rattle.gi_chains.specs.Lists.{Lists, StandsAt, IsApart}
+use Rattle.gi_chains.specs.Lists.{Lists, StandsAt, IsApart, with_word}
 use Rattle.gi_prop.specs.Assigned.{Assigned, IsTrail, with_lit}
 use Rattle.gi_prop.specs.Attached.{keys_alone}
-use Rattle.gi_prop.specs.Watched.{IsGuarded, IsIn, IsPair, IsAside, IsPlaced, IsKeyed}
+use Rattle.gi_prop.specs.Watched.{IsGuarded, IsIn, IsPair, IsBlocker, IsAside, IsPlaced, IsKeyed}
 use Rattle.gi_prop.specs.Watched.IsPlaced.{watched, aside}
 use Rattle.gi_prop.specs.Watched.IsAside.{waits, single, empty}
-use Rattle.gi_prop.specs.Watching.{IsWatched, IsLooking, IsAdded, IsMoved}
+use Rattle.gi_prop.specs.Watching.{IsWatched, IsLooking, IsAdded, IsMoved, KeepsLists}
 use Rattle.gi_prop.proofs.Guards.{guarded_extends, guarded_true, guarded_free}
-use Rattle.gi_prop.proofs.Moves.{one_list, moved_there, moved_stays, moved_length, moved_linked}
+use Rattle.gi_prop.proofs.Moves.{one_list, moved_there, moved_stays, moved_length, moved_linked, in_kept, linked_kept}
 use Rattle.gi_prop.proofs.Keys.{keyed_trail, keyed_chains}
 use Rattle.gi_prop.proofs.Slots.{attached_by}
 use Rattle.gi_prop.proofs.Adding.{AddsForced-refl, AddsForced-one}
@@ -37,6 +37,8 @@ pub record IsAtWatch (ours theirs : Lists) (s : Held) (t : Assigned) (h1 h2 f ke
   pub pair : IsPair clause f other
   pub ours_guarded : IsGuarded t h1 clause f
   pub theirs_guarded : IsGuarded t h2 clause other
+  pub our_blocker : IsBlocker clause (get_or ours.words key 0)
+  pub their_blocker : IsBlocker clause (get_or theirs.words key 0)
 
 pub at_watch : (ours theirs : Lists) (s : Held) (t : Assigned) (h1 h2 f key : ℕ) → IsApart ours → IsIn ours (f + 1) key → 2 ≤ f → IsKeyed ours theirs s t h1 h2 key → IsAtWatch ours theirs s t h1 h2 f key
 at_watch ours theirs s t h1 h2 f key apart here low k = go k.placed
@@ -57,6 +59,8 @@ at_watch ours theirs s t h1 h2 f key apart here low k = go k.placed
           pair = subst (λ (z : ℕ). IsPair k.clause z b) e p;
           ours_guarded = subst (IsGuarded t h1 k.clause) e ga;
           theirs_guarded = gb;
+          our_blocker = k.our_blocker;
+          their_blocker = k.their_blocker;
         }
     go (aside l x y i) =
         let same : l ≡ f + 1 = one_list ours l (f + 1) key apart x here in
@@ -82,18 +86,22 @@ module _ (ours theirs : Lists) (s : Held) (t : Assigned) (h1 h2 f key : ℕ) (w 
     literals = w.literals;
     our_lists = w.our_lists;
     their_lists = w.their_lists;
+    our_blocker = w.our_blocker;
+    their_blocker = w.their_blocker;
     placed = watched f w.other here w.there w.pair g w.theirs_guarded;
   }
 
   -- it watches a literal that isn't false
-  pub at_move : (h m : ℕ) (new : Lists) → Contains w.clause m → m ≢ w.other → ¬ Contains t.lits (opposite m) → IsIn new (m + 1) key → length new.lists ≡ length ours.lists → IsKeyed new theirs s t h h2 key
-  at_move h m new mc mo free here len = record {
+  pub at_move : (h m : ℕ) (new : Lists) → Contains w.clause m → m ≢ w.other → ¬ Contains t.lits (opposite m) → IsIn new (m + 1) key → length new.lists ≡ length ours.lists → get_or new.words key 0 ≡ w.other → IsKeyed new theirs s t h h2 key
+  at_move h m new mc mo free here len word = record {
     clause = w.clause;
     held = w.held;
     within = w.within;
     literals = w.literals;
     our_lists = λ i d il. rw len (w.our_lists i d il);
     their_lists = w.their_lists;
+    our_blocker = subst (IsBlocker w.clause) (sym word) (record { each = λ low. w.pair.second });
+    their_blocker = w.their_blocker;
     placed = watched m w.other here w.there (record { first = mc; second = w.pair.second; differ = mo }) (guarded_free t h w.clause m free) w.theirs_guarded;
   }
 
@@ -131,7 +139,7 @@ last_true t u l why e = subst (λ (z : Assigned). Contains z.lits l) (sym e) (le
 
 -- one node of our side moves
 pub keyed_other : (ours theirs new : Lists) (s : Held) (t : Assigned) (from to node : ℕ) → IsApart ours → IsIn ours from node → to < length ours.lists → to ≢ from → IsMoved ours new to node → (k g1 g2 : ℕ) → k ≢ node → IsKeyed ours theirs s t g1 g2 k → IsKeyed new theirs s t g1 g2 k
-keyed_other ours theirs new s t from to node apart here ml ne mv k g1 g2 n = keyed_chains ours theirs new theirs s t g1 g2 k (omega (arith, moved_length ours new from to node apart here ml ne mv)) (omega arith) (λ list h. moved_stays ours new from to node apart here ml ne mv list k n h) (λ list h. h)
+keyed_other ours theirs new s t from to node apart here ml ne mv k g1 g2 n = keyed_chains ours theirs new theirs s t g1 g2 k (omega (arith, moved_length ours new from to node apart here ml ne mv)) (omega arith) (λ list h. moved_stays ours new from to node apart here ml ne mv list k n h) (λ list h. h) (mv.words k n) refl
 
 module _ (slots : List (Option ℕ)) (ours theirs new : Lists) (s : Held) (t : Assigned) (h1 h2 : ℕ) (w : IsWatched slots ours theirs s t h1 h2) (from to node : ℕ) (here : IsIn ours from node) (ml : to < length ours.lists) (ne : to ≢ from) (mv : IsMoved ours new to node) where
   pub watched_move : IsKeyed new theirs s t h1 h2 node → IsWatched slots new theirs s t h1 h2
@@ -173,7 +181,7 @@ looking_added slots s t u f e l =
     }
 
 -- the watch moves to a literal that isn't false
-module _ (slots : List (Option ℕ)) (ours theirs new : Lists) (s : Held) (t : Assigned) (seen f node : ℕ) (w : IsWatched slots ours theirs s t t.head seen) (lk : IsLooking t f) (here : IsIn ours (f + 1) node) (m : ℕ) (a : IsAtWatch ours theirs s t t.head seen f node) (mc : Contains a.clause m) (mo : m ≢ a.other) (free : ¬ Contains t.lits (opposite m)) (mv : IsMoved ours new (m + 1) node) where
+module _ (slots : List (Option ℕ)) (ours theirs new : Lists) (s : Held) (t : Assigned) (seen f node : ℕ) (w : IsWatched slots ours theirs s t t.head seen) (lk : IsLooking t f) (here : IsIn ours (f + 1) node) (m : ℕ) (a : IsAtWatch ours theirs s t t.head seen f node) (mc : Contains a.clause m) (mo : m ≢ a.other) (free : ¬ Contains t.lits (opposite m)) (mv : IsMoved ours new (m + 1) node) (word : get_or new.words node 0 ≡ a.other) where
   ml : m + 1 < length ours.lists
   ml = list_exists ours theirs s t t.head seen f node a m mc
 
@@ -181,7 +189,7 @@ module _ (slots : List (Option ℕ)) (ours theirs new : Lists) (s : Held) (t : A
   ne e = not_false_differs t f m lk free (omega arith)
 
   key_moved : (h : ℕ) → IsKeyed new theirs s t h seen node
-  key_moved h = at_move ours theirs s t t.head seen f node a h m new mc mo free (moved_there ours new (f + 1) (m + 1) node w.kept.first_linked.apart here ml ne mv) (moved_length ours new (f + 1) (m + 1) node w.kept.first_linked.apart here ml ne mv)
+  key_moved h = at_move ours theirs s t t.head seen f node a h m new mc mo free (moved_there ours new (f + 1) (m + 1) node w.kept.first_linked.apart here ml ne mv) (moved_length ours new (f + 1) (m + 1) node w.kept.first_linked.apart here ml ne mv) word
 
   pub settle_moved : IsWatched slots new theirs s t t.head seen
   settle_moved = watched_move slots ours theirs new s t t.head seen w (f + 1) (m + 1) node here ml ne mv (key_moved t.head)
@@ -203,3 +211,62 @@ module _ (slots : List (Option ℕ)) (ours theirs : Lists) (s : Held) (t u : Ass
       let same : a.other + 1 ≡ b + 1 = one_list theirs (a.other + 1) (b + 1) node w.kept.second_linked.apart a.there there in
       let o : l ≡ a.other = omega arith in
       at_keep ours theirs s u u.head seen f node a (u.head + 1) here (guarded_kept u a.clause f a.other trail a.pair.second (subst (Contains u.lits) o (last_true t u l why e)) a.ours_guarded)
+
+-- the word of the node is true: the watch stays
+pub step_blocked : (slots : List (Option ℕ)) (ours theirs : Lists) (s : Held) (t : Assigned) (seen f node : ℕ) → IsWatched slots ours theirs s t t.head seen → IsLooking t f → IsIn ours (f + 1) node → (2 ≤ get_or ours.words node 0) × Contains t.lits (get_or ours.words node 0) → IsKeyed ours theirs s t (t.head + 1) seen node
+step_blocked slots ours theirs s t seen f node w lk here q =
+    let a = watch_at slots ours theirs s t t.head seen f node w lk here in
+    at_keep ours theirs s t t.head seen f node a (t.head + 1) here (guarded_kept t a.clause f (get_or ours.words node 0) w.trail (a.our_blocker.each q.0) q.1 a.ours_guarded)
+
+-- the word of a node is a literal of a variable of the trail
+pub word_within : (slots : List (Option ℕ)) (ours theirs : Lists) (s : Held) (t : Assigned) (seen f node : ℕ) → IsWatched slots ours theirs s t t.head seen → IsLooking t f → IsIn ours (f + 1) node → 2 ≤ get_or ours.words node 0 → get_or ours.words node 0 / 2 ≤ t.vars
+word_within slots ours theirs s t seen f node w lk here low =
+    let a = watch_at slots ours theirs s t t.head seen f node w lk here in
+    (All-contains (λ l. (1 ≤ l / 2) × (l / 2 ≤ t.vars)) a.clause (get_or ours.words node 0) a.within (a.our_blocker.each low)).1
+
+-- the word of a node changes
+pub keyed_kept : (ours new theirs : Lists) (s : Held) (t : Assigned) (g1 g2 k node : ℕ) → KeepsLists ours new node → k ≢ node → IsKeyed ours theirs s t g1 g2 k → IsKeyed new theirs s t g1 g2 k
+keyed_kept ours new theirs s t g1 g2 k node e n = keyed_chains ours theirs new theirs s t g1 g2 k (let x : length new.lists ≡ length ours.lists = ap length e.lists in omega arith) (omega arith) (λ list h. in_kept ours new e.lists list k h) (λ list h. h) (e.words k n) refl
+
+-- the word of a node that watches f is its other watch now
+module _ (slots : List (Option ℕ)) (ours theirs new : Lists) (s : Held) (t : Assigned) (seen f node : ℕ) (w : IsWatched slots ours theirs s t t.head seen) (a : IsAtWatch ours theirs s t t.head seen f node) (here : IsIn ours (f + 1) node) (e : KeepsLists ours new node) (word : get_or new.words node 0 ≡ a.other) where
+  own : (h : ℕ) → IsGuarded t h a.clause f → IsKeyed new theirs s t h seen node
+  own h g = record {
+    clause = a.clause;
+    held = a.held;
+    within = a.within;
+    literals = a.literals;
+    our_lists = λ i d il. (let x : length new.lists ≡ length ours.lists = ap length e.lists in rw x (a.our_lists i d il));
+    their_lists = a.their_lists;
+    our_blocker = subst (IsBlocker a.clause) (sym word) (record { each = λ low. a.pair.second });
+    their_blocker = a.their_blocker;
+    placed = watched f a.other (in_kept ours new e.lists (f + 1) node here) a.there a.pair g a.theirs_guarded;
+  }
+
+  pub worded_watched : IsWatched slots new theirs s t t.head seen
+  worded_watched = record {
+    kept = record { numbered = w.kept.numbered; first_linked = linked_kept slots ours new e.lists e.apart w.kept.first_linked; second_linked = w.kept.second_linked };
+    trail = w.trail;
+    keyed = λ k h. elim (cases_eq k node) [
+      | inl g ↦ subst (IsKeyed new theirs s t t.head seen) (sym g) (own t.head a.ours_guarded)
+      | inr n ↦ keyed_kept ours new theirs s t t.head seen k node e n (w.keyed k h)
+    ];
+  }
+
+  pub worded_step : Contains t.lits a.other → KeepsLists ours new node × IsKeyed new theirs s t (t.head + 1) seen node
+  worded_step k = (e, own (t.head + 1) (guarded_kept t a.clause f a.other w.trail a.pair.second k a.ours_guarded))
+
+-- nothing changes
+pub lists_same : (old : Lists) (node : ℕ) → IsApart old → KeepsLists old old node
+lists_same old node apart = record { lists = refl; words = λ k n. refl; apart = apart }
+
+-- what a new word changes
+pub lists_worded : (old new : Lists) (node word : ℕ) → new ≡ with_word old node word → IsApart new → KeepsLists old new node
+lists_worded old new node word e apart = record {
+  lists = ap (λ (z : Lists). z.lists) e;
+  words = λ k n. ap (λ (z : Lists). get_or z.words k 0) e ∙ get_or-set_other old.words node k word 0 n;
+  apart = apart;
+}
+
+pub word_now : (old new : Lists) (node word : ℕ) → new ≡ with_word old node word → IsApart old → node < old.nodes → get_or new.words node 0 ≡ word
+word_now old new node word e apart lt = let long : length old.words ≡ old.nodes = apart.worded in ap (λ (z : Lists). get_or z.words node 0) e ∙ get_or-set_same old.words node word 0 (omega arith)

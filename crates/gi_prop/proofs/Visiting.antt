@@ -10,11 +10,11 @@ use Rattle.gi_prop.specs.Assigned.{Assigned}
 use Rattle.gi_prop.specs.Attached.{AddsForced, keys_alone}
 use Rattle.gi_prop.specs.Watched.{IsIn, IsPlaced, IsKeyed}
 use Rattle.gi_prop.specs.Watched.IsPlaced.{watched, aside}
-use Rattle.gi_prop.specs.Watching.{IsWatched, IsLooking, IsAdded, IsMoved, LeavesAside}
+use Rattle.gi_prop.specs.Watching.{IsWatched, IsLooking, IsAdded, IsMoved, KeepsLists, LeavesAside}
 use Rattle.gi_prop.proofs.Guards.{guarded_more, guarded_extends}
-use Rattle.gi_prop.proofs.Moves.{items_moved, before_moved, moved_length, moved_aside, aside_on}
+use Rattle.gi_prop.proofs.Moves.{items_moved, before_moved, moved_length, moved_aside, aside_on, aside_kept}
 use Rattle.gi_prop.proofs.Keys.{keyed_trail}
-use Rattle.gi_prop.proofs.Settling.{keyed_other, looking_added}
+use Rattle.gi_prop.proofs.Settling.{keyed_other, keyed_kept, looking_added}
 use Rattle.gi_prop.proofs.Adding.{AddsForced-trans}
 
 -- how many nodes are left from one on
@@ -64,8 +64,12 @@ module _ (chains : Lists) (list : ℕ) (at : Option ℕ) (place : ℕ) (v : IsWa
   walked_past e = elim (cases_lt place (length xs)) [ inl lt ↦ absurd (let g : None ≡ Some (get_or xs place 0) = sym e ∙ v.at_is ∙ slice_get-get_or xs place 0 lt in cc) | inr ge ↦ ge ]
 
 -- on to the next node, where the lists stay
-pub walk_on : (chains new : Lists) (list : ℕ) (at : Option ℕ) (place : ℕ) → IsWalking chains list at place → (next : Option ℕ) → next ≡ slice_get (items_at chains.lists list) (place + 1) → new ≡ chains → IsWalking new list next (place + 1)
-walk_on chains new list at place v next is e = subst (λ (z : Lists). IsWalking z list next (place + 1)) (sym e) (record { exists = v.exists; apart = v.apart; at_is = is })
+pub walk_on : (chains new : Lists) (list : ℕ) (at : Option ℕ) (place : ℕ) → IsWalking chains list at place → (next : Option ℕ) → next ≡ slice_get (items_at chains.lists list) (place + 1) → new.lists ≡ chains.lists → IsApart new → IsWalking new list next (place + 1)
+walk_on chains new list at place v next is e apart = record {
+  exists = subst (λ (z : List (List ℕ)). list < length z) (sym e) v.exists;
+  apart = apart;
+  at_is = is ∙ ap (λ z. slice_get (items_at z list) (place + 1)) (sym e);
+}
 
 slice_get-removed : (ys : List ℕ) (i : ℕ) → i < length ys → slice_get (remove ys i) i ≡ slice_get ys (i + 1)
 slice_get-removed ys i il = elim (cases_lt (i + 1) (length ys)) [
@@ -89,11 +93,11 @@ module _ (chains new : Lists) (list : ℕ) (at : Option ℕ) (place : ℕ) (v : 
   }
 
 -- fewer nodes are left
-pub fewer_on : (chains new : Lists) (list : ℕ) (at : Option ℕ) (place : ℕ) (v : IsWalking chains list at place) (node : ℕ) → at ≡ Some node → (next : Option ℕ) → next ≡ slice_get (items_at chains.lists list) (place + 1) → new ≡ chains → left_of next (items_at new.lists list) < left_of at (items_at chains.lists list)
-fewer_on chains new list at place v node is next nis e =
+pub fewer_on : (chains new : Lists) (list : ℕ) (at : Option ℕ) (place : ℕ) (v : IsWalking chains list at place) (node : ℕ) → at ≡ Some node → (next : Option ℕ) → next ≡ slice_get (items_at chains.lists list) (place + 1) → new.lists ≡ chains.lists → IsApart new → left_of next (items_at new.lists list) < left_of at (items_at chains.lists list)
+fewer_on chains new list at place v node is next nis e apart =
     let il : place < length (items_at chains.lists list) = (standing chains list at place v node is).place in
-    let len : length (items_at new.lists list) ≡ length (items_at chains.lists list) = ap (λ (z : Lists). length (items_at z.lists list)) e in
-    omega (arith, left_is chains list at place v, left_is new list next (place + 1) (walk_on chains new list at place v next nis e))
+    let len : length (items_at new.lists list) ≡ length (items_at chains.lists list) = ap (λ z. length (items_at z list)) e in
+    omega (arith, left_is chains list at place v, left_is new list next (place + 1) (walk_on chains new list at place v next nis e apart))
 
 pub fewer_gone : (chains new : Lists) (list : ℕ) (at : Option ℕ) (place : ℕ) (v : IsWalking chains list at place) (node : ℕ) (is : at ≡ Some node) (to : ℕ) (ml : to < length chains.lists) (ne : to ≢ list) (mv : IsMoved chains new to node) (next : Option ℕ) → next ≡ slice_get (items_at chains.lists list) (place + 1) → left_of next (items_at new.lists list) < left_of at (items_at chains.lists list)
 fewer_gone chains new list at place v node is to ml ne mv next nis =
@@ -125,7 +129,7 @@ pub keyed_more : (ours theirs : Lists) (s : Held) (t : Assigned) (h2 f k : ℕ) 
 keyed_more ours theirs s t h2 f k lk here q = go q.placed
   where
     with_placed : IsPlaced ours theirs t (t.head + 1) h2 k q.clause → IsKeyed ours theirs s t (t.head + 1) h2 k
-    with_placed p = record { clause = q.clause; held = q.held; within = q.within; literals = q.literals; our_lists = q.our_lists; their_lists = q.their_lists; placed = p }
+    with_placed p = record { clause = q.clause; held = q.held; within = q.within; literals = q.literals; our_lists = q.our_lists; their_lists = q.their_lists; our_blocker = q.our_blocker; their_blocker = q.their_blocker; placed = p }
 
     go : IsPlaced ours theirs t t.head h2 k q.clause → IsKeyed ours theirs s t (t.head + 1) h2 k
     go (watched a b x y p ga gb) = elim (cases_eq a f) [
@@ -157,19 +161,24 @@ module _ (slots : List (Option ℕ)) (old_ours ours theirs : Lists) (s : Held) (
     higher = let len : length u.lits ≡ length t.lits + length e.adds.more = ap length e.adds.lits ∙ length-append t.lits e.adds.more in let h = v.high in omega arith
 
     -- the watch stays
-    pub visit_kept : (new ≡ ours) × IsKeyed new theirs s u (u.head + 1) seen node → IsVisiting slots old_ours new theirs s old u seen f next
+    pub visit_kept : KeepsLists ours new node × IsKeyed new theirs s u (u.head + 1) seen node → IsVisiting slots old_ours new theirs s old u seen f next
     visit_kept q = record {
       watched = w;
       added = added_on slots s old t u v.watched.trail.reasons v.added e;
-      aside = subst (LeavesAside old_ours) (sym q.0) v.aside;
+      aside = aside_kept old_ours ours new v.aside q.0.lists;
       looking = looking_added slots s t u f e v.looking;
       high = higher;
       place = v.place + 1;
-      walking = walk_on ours new (f + 1) at v.place v.walking next next_is q.0;
+      walking = walk_on ours new (f + 1) at v.place v.walking next next_is q.0.lists q.0.apart;
       done = λ j k jl st.
-          let so : StandsAt ours.lists (f + 1) j k = subst (λ (z : Lists). StandsAt z.lists (f + 1) j k) q.0 st in
+          let so : StandsAt ours.lists (f + 1) j k = subst (λ (z : List (List ℕ)). StandsAt z (f + 1) j k) q.0.lists st in
           elim (cases_lt j v.place) [
-            | inl below ↦ subst (λ (z : Lists). IsKeyed z theirs s u (u.head + 1) seen k) (sym q.0) (later k (v.done j k below so))
+            | inl below ↦
+                let other : k ≢ node = (λ g.
+                let here : StandsAt ours.lists (f + 1) j node = subst (StandsAt ours.lists (f + 1) j) g so in
+                let same : j ≡ v.place = v.walking.apart.same_place (f + 1) j (f + 1) v.place node here (standing ours (f + 1) at v.place v.walking node is) in
+                absurd (omega arith)) in
+                keyed_kept ours new theirs s u (u.head + 1) seen k node q.0 other (later k (v.done j k below so))
             | inr ge ↦
                 let same : j ≡ v.place = omega arith in
                 let key_is : k ≡ node = sym so.item ∙ ap (λ z. get_or (items_at ours.lists (f + 1)) z 0) same ∙ (standing ours (f + 1) at v.place v.walking node is).item in

@@ -76,6 +76,12 @@ pub record IsTrail (t : Assigned) : Type 0 where
   pub reasons : length t.reasons ≡ length t.lits
   pub levels : AreLevels t.lits t.marks t.head t.heads
 
+-- a literal of the variable stands no lower than what had been looked at when any level began
+pub record IsLate (t : Assigned) (v : ℕ) : Type 0 where
+  pub place : ℕ
+  pub stands : StandsAt t.lits v place
+  pub late : All (λ h. h ≤ place) t.heads
+
 -- the literal at the head
 pub record IsUnseen (t : Assigned) (l : ℕ) : Type 0 where
   pub below : t.head < length t.lits

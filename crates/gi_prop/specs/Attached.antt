@@ -66,7 +66,7 @@ pub record AreWatched (p : Attached) (s : Held) (lits : List ℕ) : Type 0 where
 
 -- no list and no node
 abbrev pub no_lists : Lists
-no_lists = record { lists = []; nodes = 0 }
+no_lists = record { lists = []; nodes = 0; words = [] }
 
 -- keys alone, with no watches
 abbrev pub keys_alone : List (Option ℕ) → Attached

@@ -30,9 +30,10 @@ pub record IsTable (places : List (Option ℕ)) (lits : List ℕ) (values : List
   pub indexed : IsIndexed places lits
   pub valued : AreValues places lits values
 
--- all that a trail keeps, with how many literals, reasons and levels there is room for
+-- all that a trail keeps, where a place fits its word, with how many literals, reasons and levels there is room for
 pub record IsLaid (places : List (Option ℕ)) (values : List (Option Bool)) (lits : List ℕ) (reasons : List (Option ℕ)) (levels marks : List ℕ) (head : ℕ) (heads : List ℕ) (room reason_room level_room : ℕ) : Type 0 where
   pub table : IsTable places lits values
+  pub few : length places < 4294967296
   pub aligned : length reasons ≡ length lits
   pub leveled : AreLevelsOf lits marks levels
   pub begun : AreLevels lits marks head heads

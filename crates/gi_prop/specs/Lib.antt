@@ -1,5 +1,6 @@
 pub mod Assigned
 pub mod Laid
+pub mod Truths
 pub mod Watched
 pub mod Attached
 pub mod Watching

@@ -7,7 +7,7 @@ use Rattle.gi_chains.specs.Lists.{Lists}
 use Rattle.gi_prop.specs.Assigned.{Assigned, HasValue}
 use Rattle.gi_prop.specs.Attached.{IsConflict, keys_alone}
 use Rattle.gi_prop.specs.Watched.{IsPair, IsKeyed}
-use Rattle.gi_prop.specs.Watching.{IsMoved, IsPassed}
+use Rattle.gi_prop.specs.Watching.{IsMoved, KeepsLists, IsPassed}
 use Rattle.gi_prop.specs.declared.look.Left.{Left}
 use Rattle.gi_prop.specs.declared.look.Left.TheVariants.{Two, One, Nothing}
 use Rattle.gi_prop.specs.declared.look.Look.{Look}
@@ -39,7 +39,7 @@ IsLook lits clause other Conflict = IsFalsified lits clause
 
 -- what became of the watch of a clause that is false: it stays and is guarded further, or is another literal now, or all of the clause is false
 abbrev pub IsStep : List (Option ℕ) → Lists → Lists → Lists → Held → Assigned → ℕ → ℕ → ℕ → Step → Type 0
-IsStep slots old new theirs s t seen falsified key Kept = (new ≡ old) × IsKeyed new theirs s t (t.head + 1) seen key
+IsStep slots old new theirs s t seen falsified key Kept = KeepsLists old new key × IsKeyed new theirs s t (t.head + 1) seen key
 IsStep slots old new theirs s t seen falsified key Moved = (m : ℕ) × (2 ≤ m) × (m ≢ falsified) × (m + 1 < length old.lists) × IsMoved old new (m + 1) key × IsKeyed new theirs s t (t.head + 1) seen key
 IsStep slots old new theirs s t seen falsified key (Failed k) = (new ≡ old) × IsConflict (keys_alone slots) s t.lits k
 

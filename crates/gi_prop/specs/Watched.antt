@@ -1,6 +1,6 @@
 -- Where the two nodes of an attached clause stand, and what is true of its watches. List l + 1 is that of the literal l; list 0 is that of the
 -- clauses that wait, list 1 that of the clauses of one literal, and list 2 that of the empty ones.
-use Rattle.std.specs.Prelude.{◌≡◌, ◌≢◌, ℕ, ◌+◌, ◌<◌, List, [], length, slice_index, All, Contains}
+use Rattle.std.specs.Prelude.{◌≡◌, ◌≢◌, ℕ, ◌+◌, ◌<◌, ◌≤◌, List, [], length, slice_index, All, Contains}
 use Rattle.gi_lit.specs.Literals.{opposite, IsLiteral}
 use Rattle.gi_store.specs.Held.{Held, Holds, IsWithin}
 use Rattle.gi_chains.specs.Lists.{Lists, StandsAt}
@@ -34,12 +34,16 @@ pub data IsAside (clause : List ℕ) (list : ℕ) : Type 0 where
   single : list ≡ 1 → (a : ℕ) → Contains clause a → All (λ m. m ≡ a) clause → IsAside clause list
   empty : list ≡ 2 → clause ≡ [] → IsAside clause list
 
+-- a word that is no literal's, or a literal of the clause
+pub record IsBlocker (clause : List ℕ) (word : ℕ) : Type 0 where
+  pub each : 2 ≤ word → Contains clause word
+
 -- the nodes stand in the lists of two different literals of the clause, its watches, each of them guarded; or in a list that is no literal's
 pub data IsPlaced (ours theirs : Lists) (t : Assigned) (our_head their_head key : ℕ) (clause : List ℕ) : Type 0 where
   watched : (a b : ℕ) → IsIn ours (a + 1) key → IsIn theirs (b + 1) key → IsPair clause a b → IsGuarded t our_head clause a → IsGuarded t their_head clause b → IsPlaced ours theirs t our_head their_head key clause
   aside : (list : ℕ) → IsIn ours list key → IsIn theirs list key → IsAside clause list → IsPlaced ours theirs t our_head their_head key clause
 
--- the key has a clause of variables of the trail, each literal of it has its lists, and its nodes are placed
+-- the key has a clause of variables of the trail, each literal of it has its lists, its nodes are placed, and their words are blockers
 pub record IsKeyed (ours theirs : Lists) (s : Held) (t : Assigned) (our_head their_head key : ℕ) : Type 0 where
   pub clause : List ℕ
   pub held : Holds s key clause
@@ -47,4 +51,6 @@ pub record IsKeyed (ours theirs : Lists) (s : Held) (t : Assigned) (our_head the
   pub literals : All IsLiteral clause
   pub our_lists : All (λ l. l + 1 < length ours.lists) clause
   pub their_lists : All (λ l. l + 1 < length theirs.lists) clause
+  pub our_blocker : IsBlocker clause (slice_index ours.words key)
+  pub their_blocker : IsBlocker clause (slice_index theirs.words key)
   pub placed : IsPlaced ours theirs t our_head their_head key clause

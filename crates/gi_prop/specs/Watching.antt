@@ -1,5 +1,5 @@
 -- What propagation by watches keeps, and what its steps do.
-use Rattle.std.specs.Prelude.{◌≡◌, ℕ, ◌+◌, ◌∷◌, ◌<◌, ◌≤◌, ◌⊎◌, Option, Some, None, List, length, remove, slice_index, slice_index_or, slice_set, All, Contains}
+use Rattle.std.specs.Prelude.{◌≡◌, ◌≢◌, ℕ, ◌+◌, ◌∷◌, ◌<◌, ◌≤◌, ◌⊎◌, Option, Some, None, List, length, remove, slice_index, slice_index_or, slice_set, All, Contains}
 use Rattle.gi_lit.specs.Literals.{opposite}
 use Rattle.gi_store.specs.Held.{Held, Holds}
 use Rattle.gi_chains.specs.Lists.{Lists, items_at, StandsAt, IsApart}
@@ -48,9 +48,16 @@ pub record LeavesAside (old new : Lists) : Type 0 where
 abbrev pub moved : List (List ℕ) → ℕ → ℕ → ℕ → ℕ → List (List ℕ)
 moved lists from i to node = let cut = slice_set lists from (remove (items_at lists from) i) in slice_set cut to (node ∷ items_at cut to)
 
--- the node, which stood in a list, is the first of another now
+-- the node, which stood in a list, is the first of another now; the words of the others stay
 pub record IsMoved (old new : Lists) (to node : ℕ) : Type 0 where
-  pub each : (from i : ℕ) → StandsAt old.lists from i node → new ≡ record old { lists = moved old.lists from i to node }
+  pub each : (from i : ℕ) → StandsAt old.lists from i node → new.lists ≡ moved old.lists from i to node
+  pub words : (k : ℕ) → k ≢ node → slice_index new.words k ≡ slice_index old.words k
+  pub apart : IsApart new
+
+-- the nodes stand where they stood, and but for one have the words that they had
+pub record KeepsLists (old new : Lists) (node : ℕ) : Type 0 where
+  pub lists : new.lists ≡ old.lists
+  pub words : (k : ℕ) → k ≢ node → slice_index new.words k ≡ slice_index old.words k
   pub apart : IsApart new
 
 -- the clause has a true literal, and its others are false
@@ -75,9 +82,10 @@ pub data AreHome (lits clause : List ℕ) (first second : ℕ) : Type 0 where
   two : (a b : ℕ) → first ≡ a + 1 → second ≡ b + 1 → IsPair clause a b → ¬ Contains lits (opposite a) → ¬ Contains lits (opposite b) → AreHome lits clause first second
   rests : first ≡ second → IsAside clause first → ¬ HasTwoLeft lits clause → AreHome lits clause first second
 
--- there may be more nodes and lists, the lists empty, and each node is where it was
+-- there may be more nodes and lists, the lists empty, and each node is where it was, with its word
 pub record HasMore (old new : Lists) : Type 0 where
   pub lists : length old.lists ≤ length new.lists
   pub kept : (list node : ℕ) → IsIn old list node → IsIn new list node
   pub others : (list node : ℕ) → IsIn new list node → IsIn old list node
+  pub words : (k : ℕ) → slice_index new.words k ≡ slice_index old.words k
   pub apart : IsApart new

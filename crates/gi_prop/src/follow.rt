@@ -1,4 +1,4 @@
-ghost use Rattle.std.specs.Prelude.{◌≡◌, ℕ, Option, Some, None, ◌+◌, ◌<◌, ◌≤◌, length, slice_index_or, IfSome, IfNone};
+ghost use Rattle.std.specs.Prelude.{◌≡◌, ℕ, Option, Some, None, ◌+◌, ◌/◌, ◌<◌, ◌≤◌, length, slice_index, slice_index_or, IfSome, IfNone, IsTrue, Contains};
 ghost use Rattle.gi_chains.specs.Lists.{IsApart, IsLinked};
 ghost use Rattle.gi_prop.specs.Attached.{IsConflict, AddsForced, keys_alone};
 ghost use Rattle.gi_prop.specs.Watched.{IsIn};
@@ -6,6 +6,7 @@ ghost use Rattle.gi_prop.specs.Watching.{IsWatched, IsLooking, IsAdded, IsMoved,
 ghost use Rattle.gi_prop.specs.Steps.{IsStep};
 
 use crate::look::{Look, Step, list_of, look_at, watched_lit};
+use crate::starts::Starts;
 use crate::trail::Trail;
 use gi_chains::Chains;
 use gi_lit::Lit;
@@ -22,15 +23,29 @@ pub(crate) fn key_of(slots: &[Option<Key>], node: u64) -> Key
     }
 }
 
-/// Takes a node from its list to the front of another.
-pub(crate) fn move_to(chains: &mut Chains, list: u32, node: u64)
+/// Takes a node from its list to the front of another, and gives it another word.
+pub(crate) fn move_to(chains: &mut Chains, list: u32, node: u64, word: u32)
     requires linked { IsLinked chains.old.lists node }
     requires list { list < length chains.old.lists }
     requires apart { IsApart chains.old }
-    ensures { IsMoved chains.old chains.new list node }
+    ensures moved { IsMoved chains.old chains.new list node }
+    ensures word { slice_index chains.new.words node ≡ word }
 {
     chains.unlink(node);
     chains.push_front(list, node);
+    chains.set_word(node, word);
+}
+
+/// Whether the word of a node is a literal that is true: the clause needs no look then.
+fn is_blocked(chains: &Chains, trail: &Trail, node: u64) -> bool
+    requires node { node < chains.now.nodes }
+    requires within { let word = slice_index chains.now.words node in 2 ≤ word → word / 2 ≤ trail.now.vars }
+    ensures { let word = slice_index chains.now.words node in IsTrue result → (2 ≤ word) × Contains trail.now.lits word }
+{
+    match Lit::from_code(chains.word(node)) {
+        None => false,
+        Some(l) => trail.is_true(l),
+    }
 }
 
 /// Sees to one clause whose watch became false: keeps it, moves the watch, or forces the other one.
@@ -38,6 +53,7 @@ fn settle(
     ours: &mut Chains,
     theirs: &Chains,
     slots: &[Option<Key>],
+    starts: &mut Starts,
     store: &Store,
     trail: &mut Trail,
     falsified: Lit,
@@ -52,6 +68,9 @@ fn settle(
     ensures added { IsAdded slots.now store.now trail.old trail.new }
     ensures step { IsStep slots.now ours.old ours.new theirs.now store.now trail.new seen falsified node result }
 {
+    if is_blocked(ours, trail, node) {
+        return Step::Kept;
+    }
     let key = key_of(slots, node);
     let Some(list) = theirs.list_of(node) else {
         unreachable!()
@@ -59,10 +78,13 @@ fn settle(
     let Some(other) = watched_lit(list) else {
         unreachable!()
     };
-    match look_at(store.clause(key), other, trail) {
-        Look::Keep => Step::Kept,
+    match look_at(store.clause(key), other, trail, starts, node) {
+        Look::Keep => {
+            ours.set_word(node, other.code());
+            Step::Kept
+        }
         Look::Move(l) => {
-            move_to(ours, list_of(l), node);
+            move_to(ours, list_of(l), node, other.code());
             Step::Moved
         }
         Look::Force => {
@@ -78,6 +100,7 @@ fn visit(
     ours: &mut Chains,
     theirs: &Chains,
     slots: &[Option<Key>],
+    starts: &mut Starts,
     store: &Store,
     trail: &mut Trail,
     falsified: Lit,
@@ -99,7 +122,7 @@ fn visit(
     let mut at = ours.first(list);
     'nodes: while let Some(node) = at {
         let next = ours.next(node);
-        match settle(ours, theirs, slots, store, trail, falsified, node) {
+        match settle(ours, theirs, slots, starts, store, trail, falsified, node) {
             Step::Failed(key) => return Some(key),
             Step::Kept => {}
             Step::Moved => {}
@@ -114,6 +137,7 @@ fn visit_other(
     ours: &mut Chains,
     theirs: &Chains,
     slots: &[Option<Key>],
+    starts: &mut Starts,
     store: &Store,
     trail: &mut Trail,
     falsified: Lit,
@@ -126,7 +150,7 @@ fn visit_other(
     ensures closed { IfNone result (IsWatched slots.now ours.new theirs.now store.now trail.new (trail.new.head + 1) (trail.new.head + 1)) }
     ensures conflict { IfSome result (IsConflict (keys_alone slots.now) store.now trail.new.lits) }
 {
-    visit(ours, theirs, slots, store, trail, falsified)
+    visit(ours, theirs, slots, starts, store, trail, falsified)
 }
 
 /// Follows the trail: looks at the clauses that watch what became false, until all of the trail was looked at or a clause is false.
@@ -134,6 +158,7 @@ pub(crate) fn follow(
     first: &mut Chains,
     second: &mut Chains,
     slots: &[Option<Key>],
+    starts: &mut Starts,
     store: &Store,
     trail: &mut Trail,
 ) -> Option<Key>
@@ -147,10 +172,10 @@ pub(crate) fn follow(
 {
     'trail: while let Some(l) = trail.unseen() {
         let falsified = l.not();
-        if let Some(key) = visit(first, second, slots, store, trail, falsified) {
+        if let Some(key) = visit(first, second, slots, starts, store, trail, falsified) {
             return Some(key);
         }
-        if let Some(key) = visit_other(second, first, slots, store, trail, falsified) {
+        if let Some(key) = visit_other(second, first, slots, starts, store, trail, falsified) {
             return Some(key);
         }
         trail.advance();

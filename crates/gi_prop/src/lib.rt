@@ -7,10 +7,13 @@ mod look;
 mod places;
 mod prop;
 mod room;
+mod starts;
 #[cfg(test)]
 mod tests;
 mod trail;
+mod truth;
 mod waits;
+mod why;
 
 pub use prop::Prop;
 pub use trail::Trail;

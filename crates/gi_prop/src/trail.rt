@@ -1,10 +1,13 @@
-ghost use Rattle.std.specs.Prelude.{◌≡◌, ℕ, ◌+◌, ◌-◌, ◌*◌, ◌/◌, ◌≤◌, ◌<◌, [], ◌∷◌, ◌++◌, length, max, None, slice_index, slice_index_or, OnOk, OnErr, MatchOption, IsTrue, ◌↔◌, Contains};
+ghost use Rattle.std.specs.Prelude.{◌≡◌, ℕ, ◌+◌, ◌-◌, ◌*◌, ◌/◌, ◌≤◌, ◌<◌, [], ◌∷◌, ◌++◌, length, max, None, slice_index, slice_index_or, OnOk, OnErr, MatchOption, IsTrue, ◌↔◌, All, Contains};
 ghost use Rattle.gi_lit.specs.Literals.{opposite};
 ghost use Rattle.gi_store.specs.Held.{Held};
 ghost use Rattle.gi_prop.specs.Attached.{Attached, Goes};
-ghost use Rattle.gi_prop.specs.Assigned.{Assigned, no_lits, HasValue, StandsAt, IsUnassigned, IsLevelAt, with_lit, with_level, cancelled, IsTrail, IsUnseen};
+ghost use Rattle.gi_prop.specs.Assigned.{Assigned, no_lits, HasValue, StandsAt, IsUnassigned, IsLevelAt, with_lit, with_level, cancelled, IsTrail, IsLate, IsUnseen};
 
 use crate::places::{add_places, add_values, unwind};
+use crate::truth::Truth;
+use crate::why::Why;
+use gi_chains::Link;
 use gi_lit::{Lit, Var};
 use gi_store::Key;
 use std::alloc::{AllocError, Global};
@@ -15,13 +18,13 @@ use std::marker::Model;
 #[derive(Drop)]
 pub struct Trail {
     lits: Vec<Lit>,
-    reasons: Vec<Option<Key>>,
+    reasons: Vec<Why>,
     levels: Vec<u32>,
-    places: Vec<Option<usize>>,
-    values: Vec<Option<bool>>,
-    marks: Vec<usize>,
+    places: Vec<Link>,
+    values: Vec<Truth>,
+    marks: Vec<u32>,
     head: usize,
-    heads: Vec<usize>,
+    heads: Vec<u32>,
 }
 
 impl Model for Trail {
@@ -83,7 +86,7 @@ impl Trail {
         requires { l / 2 ≤ self.now.vars }
         ensures { HasValue self.now.lits l result }
     {
-        match self.values[(l.var().index() - 1) as usize] {
+        match self.values[(l.var().index() - 1) as usize].get() {
             None => None,
             Some(positive) => Some(positive != l.is_negative()),
         }
@@ -99,11 +102,11 @@ impl Trail {
         ensures goes { (p : Attached) (s : Held) → Goes p s self.old → Goes p s self.new }
     {
         let at = (l.var().index() - 1) as usize;
-        self.places[at] = Some(self.lits.len());
-        self.values[at] = Some(!l.is_negative());
+        self.places[at] = Link::to(self.lits.len() as u32);
+        self.values[at] = Truth::of(!l.is_negative());
         self.levels.push_reserved(self.marks.len() as u32);
         self.lits.push_reserved(l);
-        self.reasons.push_reserved(why);
+        self.reasons.push_reserved(Why::of(why));
     }
 
     /// Begins a level: the present one rises by one. Unchanged after an error.
@@ -115,8 +118,8 @@ impl Trail {
     {
         self.marks.reserve(1)?;
         self.heads.reserve(1)?;
-        self.marks.push_reserved(self.lits.len());
-        self.heads.push_reserved(self.head);
+        self.marks.push_reserved(self.lits.len() as u32);
+        self.heads.push_reserved(self.head as u32);
         Ok(())
     }
 
@@ -133,7 +136,7 @@ impl Trail {
         requires { level < length self.now.marks }
         ensures { result ≡ slice_index self.now.marks level }
     {
-        self.marks[level as usize]
+        self.marks[level as usize] as usize
     }
 
     /// Takes the levels above this one away, with their literals. Takes no memory, and time in the number of literals that go.
@@ -146,8 +149,8 @@ impl Trail {
         if level >= self.marks.len() {
             return;
         }
-        let len = self.marks[level];
-        self.head = self.heads[level];
+        let len = self.marks[level] as usize;
+        self.head = self.heads[level] as usize;
         self.marks.truncate(level);
         self.heads.truncate(level);
         unwind(&mut self.lits, &mut self.places, &mut self.values, len);
@@ -181,7 +184,10 @@ impl Trail {
         requires { v ≤ self.now.vars }
         ensures { MatchOption result (IsUnassigned self.now.lits v) (StandsAt self.now.lits v) }
     {
-        self.places[(v.index() - 1) as usize]
+        match self.places[(v.index() - 1) as usize].get() {
+            None => None,
+            Some(place) => Some(place as usize),
+        }
     }
 
     /// The key of the clause that forced the variable's literal. None exactly where the variable is unassigned or was decided. In constant time.
@@ -192,7 +198,7 @@ impl Trail {
     {
         match self.place_of(v) {
             None => None,
-            Some(place) => self.reasons[place],
+            Some(place) => self.reasons[place].get(),
         }
     }
 
@@ -217,6 +223,38 @@ impl Trail {
             Some(true) => false,
             Some(false) => true,
             None => false,
+        }
+    }
+
+    /// Whether the literal is true. In constant time.
+    pub(crate) fn is_true(&self, l: Lit) -> bool
+        requires { l / 2 ≤ self.now.vars }
+        ensures { IsTrue result → Contains self.now.lits l }
+    {
+        match self.value(l) {
+            Some(positive) => positive,
+            None => false,
+        }
+    }
+
+    /// How much of the trail had been looked at when the last level began.
+    fn last_head(&self) -> usize
+        ensures { All (λ h. h ≤ result) self.now.heads }
+    {
+        if self.heads.is_empty() {
+            return 0;
+        }
+        self.heads[self.heads.len() - 1] as usize
+    }
+
+    /// Whether a literal of the variable stands behind what had been looked at when the last level began. In constant time.
+    pub(crate) fn is_late(&self, v: Var) -> bool
+        requires { v ≤ self.now.vars }
+        ensures { IsTrue result → IsLate self.now v }
+    {
+        match self.place_of(v) {
+            None => false,
+            Some(place) => self.last_head() <= place,
         }
     }
 

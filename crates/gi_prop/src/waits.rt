@@ -1,16 +1,54 @@
-ghost use Rattle.std.specs.Prelude.{◌≡◌, ℕ, Option, ◌+◌, ◌<◌, ◌≤◌, length, IfSome, IfNone};
+ghost use Rattle.std.specs.Prelude.{◌≡◌, ℕ, List, Option, ◌+◌, ◌<◌, ◌≤◌, length, IfSome, IfNone, Contains};
+ghost use Rattle.gi_store.specs.Held.{Holds};
 ghost use Rattle.gi_prop.specs.Attached.{IsConflict, AddsForced, keys_alone};
 ghost use Rattle.gi_prop.specs.Watched.{IsIn};
 ghost use Rattle.gi_prop.specs.Watching.{IsWatched, IsAdded, LeavesAside, ArePassed};
-ghost use Rattle.gi_prop.specs.Steps.{IsPromoted};
+ghost use Rattle.gi_prop.specs.Steps.{AreOthersFalse, IsPromoted};
 
 use crate::follow::{key_of, move_to};
-use crate::look::{EMPTY, Left, SINGLE, Step, WAITING, left_of, list_of};
+use crate::look::{EMPTY, Left, SINGLE, Step, WAITING, late_in, left_of, list_of};
 use crate::trail::Trail;
 use gi_chains::Chains;
+use gi_lit::Lit;
 use gi_store::{Key, Store};
 
-/// Sees to one clause that watches nothing: two watches if two different literals aren't false, else what it forces.
+/// Has a clause with one true literal, whose others are false, watch that one and one that became false late, if one did: it needs no look then
+/// until that one is free again.
+fn watch_late(
+    first: &mut Chains,
+    second: &mut Chains,
+    slots: &[Option<Key>],
+    store: &Store,
+    clause: &[Lit],
+    trail: &Trail,
+    node: u64,
+    forced: Lit,
+) -> Step
+    requires watched { IsWatched slots.now first.old second.old store.now trail.now trail.now.head trail.now.head }
+    requires linked { (list : ℕ) × (list < 3) × IsIn first.old list node }
+    requires held { Holds store.now node clause.now }
+    requires only { (c : List ℕ) → Holds store.now node c → clause.now ≡ c }
+    requires stands { Contains clause.now forced }
+    requires is_true { Contains trail.now.lits forced }
+    requires others { AreOthersFalse trail.now.lits clause.now forced }
+    ensures watched { IsWatched slots.now first.new second.new store.now trail.now trail.now.head trail.now.head }
+    ensures aside { LeavesAside second.old second.new }
+    ensures step { IsPromoted slots.now first.old first.new store.now trail.now node result }
+{
+    let _ = slots.len();
+    let _ = store.vars();
+    match late_in(clause, forced, trail) {
+        None => Step::Kept,
+        Some(l) => {
+            move_to(first, list_of(forced), node, l.code());
+            move_to(second, list_of(l), node, forced.code());
+            Step::Moved
+        }
+    }
+}
+
+/// Sees to one clause that watches nothing: two watches if two different literals aren't false, else what it forces, with two watches if another
+/// became false late.
 fn promote(
     first: &mut Chains,
     second: &mut Chains,
@@ -27,18 +65,19 @@ fn promote(
     ensures step { IsPromoted slots.now first.old first.new store.now trail.new node result }
 {
     let key = key_of(slots, node);
-    match left_of(store.clause(key), trail) {
+    let clause = store.clause(key);
+    match left_of(clause, trail) {
         Left::Two(a, b) => {
-            move_to(first, list_of(a), node);
-            move_to(second, list_of(b), node);
+            move_to(first, list_of(a), node, b.code());
+            move_to(second, list_of(b), node, a.code());
             Step::Moved
         }
         Left::One(l) => match trail.value(l) {
             None => {
                 trail.assign(l, Some(key));
-                Step::Kept
+                watch_late(first, second, slots, store, clause, trail, node, l)
             }
-            Some(_) => Step::Kept,
+            Some(_) => watch_late(first, second, slots, store, clause, trail, node, l),
         },
         Left::Nothing => Step::Failed(key),
     }

@@ -5,78 +5,83 @@ use gi_store::Key;
 use std::alloc::{AllocError, Global};
 use std::test::Fail;
 
+/// The clauses of one problem over the variables 1 to 5, each as the bits of its literals' codes.
+type Clauses = [u32; 8];
+
 /// The next of a row of numbers that look drawn.
 fn next(seed: u64) -> u64 {
     seed.wrapping_mul(6_364_136_223_846_793_005)
         .wrapping_add(1_442_695_040_888_963_407)
 }
 
-/// Up to three literals of the variables 1 to 5.
-fn drawn(alloc: Global, seed: &mut u64) -> Result<Lits, AllocError> {
-    let mut clause = Lits::new(alloc);
+/// The bit of a literal.
+fn bit(l: Lit) -> u32 {
+    1u32.checked_shl(l.code()).unwrap_or(0)
+}
+
+/// The bits of the opposite literals.
+fn opposites(bits: u32) -> u32 {
+    (bits & 0x5555_5555) << 1 | (bits & 0xaaaa_aaaa) >> 1
+}
+
+/// Draws up to three literals, maybe one of them twice, and gives their bits.
+fn draw(seed: &mut u64, clause: &mut Lits) -> Result<u32, AllocError> {
+    let mut bits = 0;
     *seed = next(*seed);
     for _ in 0..(*seed >> 33) % 3 + 1 {
         *seed = next(*seed);
         let code = ((*seed >> 33) % 10) as u32 + 2;
         if let Some(l) = Lit::from_code(code) {
             clause.push(l)?;
+            bits |= bit(l);
         }
     }
-    Ok(clause)
+    Ok(bits)
 }
 
-/// Draws 8 clauses and attaches them.
-fn attach_drawn(alloc: Global, seed: &mut u64, parts: &mut Parts) -> Result<Vec<Lits>, Fail> {
-    let mut clauses = Vec::new(alloc);
-    for _ in 0..8 {
-        let clause = drawn(alloc, seed)?;
+/// Draws clauses and attaches them.
+fn attach_drawn(alloc: Global, seed: &mut u64, parts: &mut Parts) -> Result<Clauses, Fail> {
+    let mut clauses = [0; 8];
+    for bits in clauses.iter_mut() {
+        let mut clause = Lits::new(alloc);
+        *bits = draw(seed, &mut clause)?;
         parts.attach(clause.as_slice())?;
-        clauses.push(clause)?;
     }
     Ok(clauses)
 }
 
-/// The different literals of a clause that aren't false.
-fn left(alloc: Global, clause: &[Lit], known: &[Lit]) -> Result<Vec<Lit>, AllocError> {
-    let mut free = Vec::new(alloc);
-    for l in clause {
-        if !known.contains(&l.not()) && !free.contains(l) {
-            free.push(*l)?;
+/// What is known after a look at each clause; None where one is false.
+fn look(clauses: &Clauses, mut known: u32) -> Option<u32> {
+    for bits in clauses {
+        let left = *bits & !opposites(known);
+        if left == 0 {
+            return None;
+        }
+        if left & left.wrapping_sub(1) == 0 {
+            known |= left;
         }
     }
-    Ok(free)
+    Some(known)
 }
 
-/// The unit closure of clauses over 5 variables, slowly: all that stands in it, or None where it conflicts.
-fn closure(alloc: Global, clauses: &[Lits]) -> Result<Option<Vec<Lit>>, AllocError> {
-    let mut known: Vec<Lit> = Vec::new(alloc);
+/// The unit closure, slowly: all that stands in it, or None where it conflicts.
+fn closure(clauses: &Clauses) -> Option<u32> {
+    let mut known = 0;
     for _ in 0..6 {
-        for clause in clauses {
-            let free = left(alloc, clause.as_slice(), known.as_slice())?;
-            match free.as_slice() {
-                [] => return Ok(None),
-                [l] => {
-                    if !known.contains(l) {
-                        known.push(*l)?;
-                    }
-                }
-                _ => {}
-            }
-        }
+        known = look(clauses, known)?;
     }
-    Ok(Some(known))
+    Some(known)
 }
 
 /// Whether propagation ended with these literals, or in a conflict where there are none.
-fn ends_with(trail: &Trail, conflict: Option<Key>, known: Option<Vec<Lit>>) -> bool {
+fn ends_with(trail: &Trail, conflict: Option<Key>, known: Option<u32>) -> bool {
+    let mut bits = 0;
+    for l in trail.lits() {
+        bits |= bit(*l);
+    }
     match known {
         None => conflict.is_some(),
-        Some(known) => {
-            let lits = trail.lits();
-            conflict.is_none()
-                && lits.len() == known.len()
-                && lits.iter().all(|l| known.contains(l))
-        }
+        Some(known) => conflict.is_none() && bits == known,
     }
 }
 
@@ -84,12 +89,12 @@ fn ends_with(trail: &Trail, conflict: Option<Key>, known: Option<Vec<Lit>>) -> b
 fn drawn_conflict(alloc: Global, seed: &mut u64) -> Result<bool, Fail> {
     let mut parts = Parts::new(alloc, 5)?;
     let clauses = attach_drawn(alloc, seed, &mut parts)?;
-    let known = closure(alloc, clauses.as_slice())?;
+    let known = closure(&clauses);
     let conflict = parts.propagate();
     if !ends_with(parts.trail(), conflict, known) {
         return Err("the unit closure".into());
     }
-    Ok(conflict.is_some())
+    Ok(known.is_none())
 }
 
 #[test]

@@ -5,6 +5,7 @@ ghost use Rattle.gi_prop.specs.Attached.{Attached, Goes};
 use crate::Trail;
 use gi_lit::Lit;
 use gi_store::Key;
+use std::alloc::Global;
 use std::test::Fail;
 
 /// Decides a literal of the trail.
@@ -46,21 +47,24 @@ pub fn is_trail(trail: &Trail, numbers: &[i32]) -> bool {
         .eq(numbers.iter().copied())
 }
 
-/// The place, the reason and the level of an assigned variable.
-pub type Stand = (usize, Option<Key>, u32);
-
-/// Whether this is the literal's value, and its variable stands there.
-pub fn says(trail: &Trail, number: i32, value: Option<bool>, stand: Option<Stand>) -> bool {
+/// Whether the literal is true and stands at this place and level; its variable is unassigned where there are none.
+pub fn stands(trail: &Trail, number: i32, place: Option<usize>, level: Option<u32>) -> bool {
     let Some(l) = Lit::from_dimacs(number) else {
         return false;
     };
-    if l.var().index() as usize > trail.vars() || trail.value(l) != value {
+    if l.var().index() as usize > trail.vars() {
         return false;
     }
-    match (trail.place_of(l.var()), trail.level_of(l.var())) {
-        (Some(place), Some(level)) => stand == Some((place, trail.reason(l.var()), level)),
-        (None, None) => stand.is_none() && trail.reason(l.var()).is_none(),
-        _ => false,
+    trail.value(l) == place.map(|_| true)
+        && trail.place_of(l.var()) == place
+        && trail.level_of(l.var()) == level
+}
+
+/// Whether that is the reason of the variable.
+pub fn has_reason(trail: &Trail, number: i32, why: Option<Key>) -> bool {
+    match Lit::from_dimacs(number) {
+        None => false,
+        Some(l) => l.var().index() as usize <= trail.vars() && trail.reason(l.var()) == why,
     }
 }
 
@@ -80,77 +84,74 @@ fn take(trail: &mut Trail, step: Step) -> Result<(), Fail> {
     }
 }
 
-/// A step with what stands afterwards: the level, the literals, and the variables 1 and 2.
+/// A step with what stands afterwards: the level, the literals, and the places and levels of 1 and of -2.
 #[derive(Clone, Copy)]
 struct Row {
     step: Step,
     level: u32,
     numbers: &'static [i32],
-    one: Option<Stand>,
-    two: Option<Stand>,
+    places: [Option<usize>; 2],
+    levels: [Option<u32>; 2],
 }
 
-/// Whether the trail is as the row says; 1 is true and 2 is false where they have a value.
+/// Whether the trail is as the row says.
 fn is_as(trail: &Trail, row: &Row) -> bool {
     trail.level() == row.level
         && is_trail(trail, row.numbers)
-        && says(trail, 1, row.one.map(|_| true), row.one)
-        && says(trail, 2, row.two.map(|_| false), row.two)
+        && stands(trail, 1, row.places[0], row.levels[0])
+        && stands(trail, -2, row.places[1], row.levels[1])
+        && has_reason(trail, 1, None)
 }
-
-const ONE: Option<Stand> = Some((1, None, 2));
-
-const TWO: Option<Stand> = Some((0, None, 1));
 
 const ROWS: [Row; 7] = [
     Row {
         step: Step::Level,
         level: 1,
         numbers: &[],
-        one: None,
-        two: None,
+        places: [None, None],
+        levels: [None, None],
     },
     Row {
         step: Step::Decide(-2),
         level: 1,
         numbers: &[-2],
-        one: None,
-        two: TWO,
+        places: [None, Some(0)],
+        levels: [None, Some(1)],
     },
     Row {
         step: Step::Level,
         level: 2,
         numbers: &[-2],
-        one: None,
-        two: TWO,
+        places: [None, Some(0)],
+        levels: [None, Some(1)],
     },
     Row {
         step: Step::Decide(1),
         level: 2,
         numbers: &[-2, 1],
-        one: ONE,
-        two: TWO,
+        places: [Some(1), Some(0)],
+        levels: [Some(2), Some(1)],
     },
     Row {
         step: Step::CancelTo(2),
         level: 2,
         numbers: &[-2, 1],
-        one: ONE,
-        two: TWO,
+        places: [Some(1), Some(0)],
+        levels: [Some(2), Some(1)],
     },
     Row {
         step: Step::CancelTo(1),
         level: 1,
         numbers: &[-2],
-        one: None,
-        two: TWO,
+        places: [None, Some(0)],
+        levels: [None, Some(1)],
     },
     Row {
         step: Step::CancelTo(0),
         level: 0,
         numbers: &[],
-        one: None,
-        two: None,
+        places: [None, None],
+        levels: [None, None],
     },
 ];
 
@@ -165,17 +166,19 @@ fn levels_come_and_go(rt: HostRuntime) -> Result<(), Fail> {
     Ok(())
 }
 
-#[test]
-fn a_level_begins_behind_the_literals(rt: HostRuntime) -> Result<(), Fail> {
-    let mut trail = Trail::new(rt.alloc());
+/// A trail of two variables with a decision below its first level.
+fn one_level(alloc: Global) -> Result<Trail, Fail> {
+    let mut trail = Trail::new(alloc);
     trail.grow(2)?;
     decide(&mut trail, 2)?;
     push_level(&mut trail)?;
-    if trail.level() == 0 {
-        return Err("a level".into());
-    }
-    assert_eq!(rt; trail.start_of(0), 1);
     trail.grow(1)?;
-    assert_eq!(rt; trail.vars(), 2);
+    Ok(trail)
+}
+
+#[test]
+fn a_level_begins_behind_the_literals(rt: HostRuntime) -> Result<(), Fail> {
+    let trail = one_level(rt.alloc())?;
+    assert!(rt; trail.level() > 0 && trail.start_of(0) == 1 && trail.vars() == 2);
     Ok(())
 }

@@ -3,7 +3,7 @@ ghost use Rattle.gi_prop.specs.Attached.{IsAttached, HasSameKeys};
 
 use crate::tests::levels::decide;
 use crate::{Prop, Trail};
-use gi_lit::{Lit, Lits};
+use gi_lit::{Lit, Lits, MAX_VAR};
 use gi_store::{Key, Store};
 use std::alloc::{AllocError, Global};
 use std::marker::Model;
@@ -41,7 +41,7 @@ impl Model for Parts {
 impl Parts {
     /// The variables are 1 to `vars`.
     pub fn new(alloc: Global, vars: u32) -> Result<Parts, Fail> {
-        if vars > 1_048_576 {
+        if vars > MAX_VAR {
             return Err("variables of a store".into());
         }
         let mut store = Store::new(alloc);

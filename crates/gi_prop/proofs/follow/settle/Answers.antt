@@ -1,10 +1,10 @@
-use Rattle.std.proofs.Common.{◌≡◌, ◌≤◌, ◌/◌, ◌+◌, ℕ, Some, None, get_or, List, refl, sym, ◌∙◌, subst, arith}
+use Rattle.std.proofs.Common.{◌≡◌, ◌≤◌, ◌/◌, ℕ, Some, None, get_or, List, refl, sym, ◌∙◌, subst, arith}
 use Rattle.std.specs.List.{Contains}
 use Rattle.gi_store.specs.Held.{IsLive, IsWithin}
 use Rattle.gi_prop.specs.Attached.{IsAttached, keys_alone}
 use Rattle.gi_prop.proofs.Adding.{held_live}
 use Rattle.gi_prop.proofs.Slots.{attached_by}
-use Rattle.gi_prop.proofs.Settling.{watch_at, read_is, other_is, list_is, other_literal, other_within, list_exists, at_keep, guarded_kept, added_none, added_one, moved_as, settle_moved, step_moved, settle_forced, step_forced}
+use Rattle.gi_prop.proofs.Settling.{watch_at, read_is, other_is, list_is, other_literal, other_within, list_exists, added_none, added_one, moved_as, settle_moved, step_moved, settle_forced, step_forced, step_blocked, word_within, worded_watched, worded_step, lists_same, lists_worded, word_now}
 use Rattle.gi_prop.proofs.follow.settle.Goals as goal
 
 pub key_of-key-requires : goal.key_of-key-requires
@@ -68,18 +68,31 @@ assign-requires-clause-within g c =
 pub returns-in-Keep-clause-added : goal.returns-in-Keep-clause-added
 returns-in-Keep-clause-added g c = added_none c.args.slots.now c.args.store.now c.args.trail.now
 
+pub set_word-requires : goal.set_word-requires
+set_word-requires g c = c.requires.0.kept.first_linked.apart.within _ _ _ c.requires.1.1.0.stands
+
+pub returns-in-Keep-clause-watched : goal.returns-in-Keep-clause-watched
+returns-in-Keep-clause-watched g c =
+    let w = watch_at _ _ _ _ _ _ _ _ _ c.requires.0 c.requires.1.0 c.requires.1.1.0 in
+    let o = other_is c.args.theirs.now c.in-Some.list c.in-Some-watched_lit.other w.other c.args.node c.requires.0.kept.second_linked.apart c.in-Some.ensures.value c.in-Some-watched_lit.ensures.1 w.there in
+    let e = lists_worded c.args.ours.now c.set_word.new.self c.args.node c.code.result c.set_word.ensures.after c.set_word.ensures.apart in
+    let word : get_or c.set_word.new.self.words c.args.node 0 ≡ w.other = word_now c.args.ours.now c.set_word.new.self c.args.node c.code.result c.set_word.ensures.after c.requires.0.kept.first_linked.apart (c.requires.0.kept.first_linked.apart.within _ _ _ c.requires.1.1.0.stands) ∙ c.code.ensures.value ∙ o in
+    worded_watched _ _ _ _ _ _ _ _ _ c.requires.0 w c.requires.1.1.0 e word
+
 pub returns-in-Keep-clause-step : goal.returns-in-Keep-clause-step
 returns-in-Keep-clause-step g c =
     let w = watch_at _ _ _ _ _ _ _ _ _ c.requires.0 c.requires.1.0 c.requires.1.1.0 in
     let o = other_is c.args.theirs.now c.in-Some.list c.in-Some-watched_lit.other w.other c.args.node c.requires.0.kept.second_linked.apart c.in-Some.ensures.value c.in-Some-watched_lit.ensures.1 w.there in
-    (refl, at_keep _ _ _ _ _ _ _ _ w (c.args.trail.now.head + 1) c.requires.1.1.0 (guarded_kept c.args.trail.now w.clause c.args.falsified w.other c.requires.0.trail w.pair.second (subst (Contains c.args.trail.now.lits) o c.in-Keep.ensures) w.ours_guarded))
+    let e = lists_worded c.args.ours.now c.set_word.new.self c.args.node c.code.result c.set_word.ensures.after c.set_word.ensures.apart in
+    let word : get_or c.set_word.new.self.words c.args.node 0 ≡ w.other = word_now c.args.ours.now c.set_word.new.self c.args.node c.code.result c.set_word.ensures.after c.requires.0.kept.first_linked.apart (c.requires.0.kept.first_linked.apart.within _ _ _ c.requires.1.1.0.stands) ∙ c.code.ensures.value ∙ o in
+    worded_step _ _ _ _ _ _ _ _ _ c.requires.0 w c.requires.1.1.0 e word (subst (Contains c.args.trail.now.lits) o c.in-Keep.ensures)
 
 pub returns-in-Move-clause-watched : goal.returns-in-Move-clause-watched
 returns-in-Move-clause-watched g c =
     let w = watch_at _ _ _ _ _ _ _ _ _ c.requires.0 c.requires.1.0 c.requires.1.1.0 in
     let r = read_is c.args.store.now c.key_of-key.result c.args.node w.clause c.clause.result.now c.key_of-key.ensures w.held c.clause.ensures.only in
     let o = other_is c.args.theirs.now c.in-Some.list c.in-Some-watched_lit.other w.other c.args.node c.requires.0.kept.second_linked.apart c.in-Some.ensures.value c.in-Some-watched_lit.ensures.1 w.there in
-    settle_moved _ _ _ _ _ _ _ _ _ c.requires.0 c.requires.1.0 c.requires.1.1.0 c.in-Move.l w (subst (λ (z : List ℕ). Contains z c.in-Move.l) r c.in-Move.ensures.0) (λ e. c.in-Move.ensures.1 (e ∙ sym o)) c.in-Move.ensures.2 (moved_as _ _ _ _ _ c.list_of-in-Move.ensures.value c.move_to.ensures)
+    settle_moved _ _ _ _ _ _ _ _ _ c.requires.0 c.requires.1.0 c.requires.1.1.0 c.in-Move.l w (subst (λ (z : List ℕ). Contains z c.in-Move.l) r c.in-Move.ensures.0) (λ e. c.in-Move.ensures.1 (e ∙ sym o)) c.in-Move.ensures.2 (moved_as _ _ _ _ _ c.list_of-in-Move.ensures.value c.move_to.ensures.moved) (c.move_to.ensures.word ∙ c.code-in-Move.ensures.value ∙ o)
 
 pub returns-in-Move-clause-added : goal.returns-in-Move-clause-added
 returns-in-Move-clause-added g c = added_none c.args.slots.now c.args.store.now c.args.trail.now
@@ -89,7 +102,7 @@ returns-in-Move-clause-step g c =
     let w = watch_at _ _ _ _ _ _ _ _ _ c.requires.0 c.requires.1.0 c.requires.1.1.0 in
     let r = read_is c.args.store.now c.key_of-key.result c.args.node w.clause c.clause.result.now c.key_of-key.ensures w.held c.clause.ensures.only in
     let o = other_is c.args.theirs.now c.in-Some.list c.in-Some-watched_lit.other w.other c.args.node c.requires.0.kept.second_linked.apart c.in-Some.ensures.value c.in-Some-watched_lit.ensures.1 w.there in
-    step_moved _ _ _ _ _ _ _ _ _ c.requires.0 c.requires.1.0 c.requires.1.1.0 c.in-Move.l w (subst (λ (z : List ℕ). Contains z c.in-Move.l) r c.in-Move.ensures.0) (λ e. c.in-Move.ensures.1 (e ∙ sym o)) c.in-Move.ensures.2 (moved_as _ _ _ _ _ c.list_of-in-Move.ensures.value c.move_to.ensures)
+    step_moved _ _ _ _ _ _ _ _ _ c.requires.0 c.requires.1.0 c.requires.1.1.0 c.in-Move.l w (subst (λ (z : List ℕ). Contains z c.in-Move.l) r c.in-Move.ensures.0) (λ e. c.in-Move.ensures.1 (e ∙ sym o)) c.in-Move.ensures.2 (moved_as _ _ _ _ _ c.list_of-in-Move.ensures.value c.move_to.ensures.moved) (c.move_to.ensures.word ∙ c.code-in-Move.ensures.value ∙ o)
 
 pub returns-in-Force-clause-watched : goal.returns-in-Force-clause-watched
 returns-in-Force-clause-watched g c = settle_forced _ _ _ _ _ _ _ _ _ c.requires.0 c.requires.1.0 c.requires.1.1.0 _ _ c.assign.ensures.added c.assign.ensures.trail c.requires.1.1.1
@@ -103,7 +116,7 @@ pub returns-in-Force-clause-step : goal.returns-in-Force-clause-step
 returns-in-Force-clause-step g c =
     let w = watch_at _ _ _ _ _ _ _ _ _ c.requires.0 c.requires.1.0 c.requires.1.1.0 in
     let o = other_is c.args.theirs.now c.in-Some.list c.in-Some-watched_lit.other w.other c.args.node c.requires.0.kept.second_linked.apart c.in-Some.ensures.value c.in-Some-watched_lit.ensures.1 w.there in
-    (refl, step_forced _ _ _ _ _ _ _ _ _ c.requires.0 c.requires.1.0 c.requires.1.1.0 _ _ c.assign.ensures.added c.assign.ensures.trail c.requires.1.1.1 (returns-in-Force-clause-added g c) w.other w.there o)
+    (lists_same c.args.ours.now c.args.node c.requires.0.kept.first_linked.apart, step_forced _ _ _ _ _ _ _ _ _ c.requires.0 c.requires.1.0 c.requires.1.1.0 _ _ c.assign.ensures.added c.assign.ensures.trail c.requires.1.1.1 (returns-in-Force-clause-added g c) w.other w.there o)
 
 pub returns-in-Conflict-clause-added : goal.returns-in-Conflict-clause-added
 returns-in-Conflict-clause-added g c = added_none c.args.slots.now c.args.store.now c.args.trail.now
@@ -112,3 +125,15 @@ pub returns-in-Conflict-clause-step : goal.returns-in-Conflict-clause-step
 returns-in-Conflict-clause-step g c =
     let at = attached_by (keys_alone c.args.slots.now) c.args.node (c.requires.0.kept.first_linked.attached c.args.node _ c.requires.1.1.0) in
     (refl, record { attached = subst (IsAttached (keys_alone c.args.slots.now)) (sym c.key_of-key.ensures) at; clause = c.clause.result.now; held = c.clause.ensures.holds; falsified = c.in-Conflict.ensures })
+
+pub is_blocked-requires-clause-node : goal.is_blocked-requires-clause-node
+is_blocked-requires-clause-node g c = c.requires.0.kept.first_linked.apart.within _ _ _ c.requires.1.1.0.stands
+
+pub is_blocked-requires-clause-within : goal.is_blocked-requires-clause-within
+is_blocked-requires-clause-within g c = word_within _ _ _ _ _ _ _ _ c.requires.0 c.requires.1.0 c.requires.1.1.0
+
+pub returns-then-is_blocked-clause-added : goal.returns-then-is_blocked-clause-added
+returns-then-is_blocked-clause-added g c = added_none c.args.slots.now c.args.store.now c.args.trail.now
+
+pub returns-then-is_blocked-clause-step : goal.returns-then-is_blocked-clause-step
+returns-then-is_blocked-clause-step g c = (lists_same c.args.ours.now c.args.node c.requires.0.kept.first_linked.apart, step_blocked _ _ _ _ _ _ _ _ c.requires.0 c.requires.1.0 c.requires.1.1.0 (c.is_blocked.ensures c.if-is_blocked.true))

@@ -59,7 +59,7 @@ pub nodes-smaller-in-Kept : goal.nodes-smaller-in-Kept
 nodes-smaller-in-Kept g c =
     let v = c.nodes.invariant in
     let s = standing _ _ _ _ v.walking _ c.in-Some.is in
-    fewer_on _ _ _ _ _ v.walking _ c.in-Some.is _ (c.next-next.ensures.linked _ _ s) c.in-Kept.ensures.step.0
+    fewer_on _ _ _ _ _ v.walking _ c.in-Some.is _ (c.next-next.ensures.linked _ _ s) c.in-Kept.ensures.step.0.lists c.in-Kept.ensures.step.0.apart
 
 pub nodes-preserved-in-Kept : goal.nodes-preserved-in-Kept
 nodes-preserved-in-Kept g c =

@@ -15,7 +15,7 @@ loop-lits-preserved-in-Some c =
     let front_is : take (length front) c.args.lits.now.items ≡ front =
     sym (take-take (length front) (length c.loop-lits.lits.items) c.args.lits.now.items (omega arith)) ∙ ap (take (length front)) (i.front ∙ items) ∙ take_at front (c.in-Some.l ∷ []) (length front) refl in
     record {
-      table = rw (c.index.ensures.value, c.var.ensures) (IsTable-pop c.loop-lits.places.items front c.in-Some.l c.loop-lits.values.items old);
+      table = rw (c.none.ensures, c.unknown.ensures, c.index.ensures.value, c.var.ensures) (IsTable-pop c.loop-lits.places.items front c.in-Some.l c.loop-lits.values.items old);
       front = front_is;
       long = omega arith;
       capacity = omega (arith, i.capacity, c.in-Some.ensures.capacity);

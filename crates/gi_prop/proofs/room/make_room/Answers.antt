@@ -11,6 +11,15 @@ some_value (Some x) P v n h e = (let f : x ≡ n = cc in sym f) ∙ h.1
 same : (xs ys : List (Option ℕ)) → ys ≡ xs → (m : ℕ) × (ys ≡ xs ++ replicate m None)
 same xs ys e = (0, e ∙ sym (append-nil xs))
 
+pub returns-in_err-reach-clause-first : goal.returns-in_err-reach-clause-first
+returns-in_err-reach-clause-first c = more_same_lists _ _ refl c.requires.first_apart
+
+pub returns-in_err-reach-clause-second : goal.returns-in_err-reach-clause-second
+returns-in_err-reach-clause-second c = more_same_lists _ _ refl c.requires.second_apart
+
+pub returns-in_err-reach-clause-slots : goal.returns-in_err-reach-clause-slots
+returns-in_err-reach-clause-slots c = same _ _ refl
+
 pub returns-in_err-most-clause-first : goal.returns-in_err-most-clause-first
 returns-in_err-most-clause-first c = more_same_lists _ _ refl c.requires.first_apart
 

@@ -1,4 +1,5 @@
-use Rattle.std.proofs.Common.{◌+◌, sym, subst, arith}
+use Rattle.std.proofs.Common.{◌+◌, sym, ap, subst, arith}
+use Rattle.gi_chains.specs.Lists.{Lists, IsApart}
 use Rattle.gi_prop.specs.Watching.{LeavesAside}
 use Rattle.gi_prop.proofs.Moves.{aside_same, aside_on}
 use Rattle.gi_prop.proofs.Settling.{added_none}
@@ -61,7 +62,7 @@ pub nodes-smaller-in-Kept : goal.nodes-smaller-in-Kept
 nodes-smaller-in-Kept c =
     let v = c.nodes.invariant in
     let s = standing _ _ _ _ v.walking _ c.in-Some.is in
-    fewer_on _ _ _ _ _ v.walking _ c.in-Some.is _ (c.next-next.ensures.linked _ _ s) c.in-Kept.ensures.step.0
+    fewer_on _ _ _ _ _ v.walking _ c.in-Some.is _ (c.next-next.ensures.linked _ _ s) (ap (λ (z : Lists). z.lists) c.in-Kept.ensures.step.0) (subst IsApart (sym c.in-Kept.ensures.step.0) v.walking.apart)
 
 pub nodes-preserved-in-Kept : goal.nodes-preserved-in-Kept
 nodes-preserved-in-Kept c =

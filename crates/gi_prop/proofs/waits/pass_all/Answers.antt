@@ -1,3 +1,4 @@
+use Rattle.gi_prop.proofs.Moves.{aside_on}
 use Rattle.gi_prop.proofs.Visiting.{added_on}
 use Rattle.gi_prop.proofs.Passing.{if_none, lists_passed}
 use Rattle.gi_prop.proofs.waits.pass_all.Goals as goal
@@ -10,3 +11,9 @@ returns-clause-added c = added_on _ _ _ _ _ c.pass-2.ensures.watched.trail.reaso
 
 pub returns-clause-passed : goal.returns-clause-passed
 returns-clause-passed c = if_none c.pass-3.result _ _ (λ p. lists_passed c.args.slots.now _ _ _ c.args.store.now _ _ _ c.pass-2.ensures.first_aside c.pass-3.ensures.first_aside c.pass-2.ensures.added.adds c.pass-3.ensures.added.adds c.in_default.ensures.passed c.in_default-pass.ensures.passed p) c.pass-3.ensures.passed
+
+pub returns-clause-first_aside : goal.returns-clause-first_aside
+returns-clause-first_aside c = aside_on _ _ _ (aside_on _ _ _ c.pass.ensures.first_aside c.pass-2.ensures.first_aside) c.pass-3.ensures.first_aside
+
+pub returns-clause-second_aside : goal.returns-clause-second_aside
+returns-clause-second_aside c = aside_on _ _ _ (aside_on _ _ _ c.pass.ensures.second_aside c.pass-2.ensures.second_aside) c.pass-3.ensures.second_aside

@@ -1,11 +1,11 @@
-use Rattle.std.proofs.Common.{Result, Ok, Err, OnErr, ◌≡◌, ◌+◌, ◌*◌, ◌++◌, ℕ, Some, None, List, get_or, set, replicate, sym, ap, ◌∙◌, subst, arith}
+use Rattle.std.proofs.Common.{Result, Ok, Err, OnErr, ◌≡◌, ◌+◌, ◌*◌, ◌++◌, ◌<◌, ℕ, Some, None, List, get_or, set, replicate, sym, ap, ◌∙◌, subst, arith}
 use Rattle.std.specs.Prelude.{◌↔◌}
 use Rattle.gi_store.specs.Held.{Held}
-use Rattle.gi_chains.specs.Lists.{IsFree}
+use Rattle.gi_chains.specs.Lists.{Lists, IsFree}
 use Rattle.gi_prop.specs.Assigned.{Assigned}
 use Rattle.gi_prop.specs.Attached.{Attached, IsAttached, Goes, HasWatches, KeepsWatches, HasTwoLeft}
 use Rattle.gi_prop.proofs.Slots.{attached_by}
-use Rattle.gi_prop.proofs.Rooms.{put_as}
+use Rattle.gi_prop.proofs.Rooms.{put_as, put_word}
 use Rattle.gi_prop.proofs.Attaching.{free_at, free_more, listed, are_literals, home_lists, more_attached, goes_more, watches_more, kept_more, IsAttaching, attaching_kept, attaching_goes, attaching_others, attaching_watched, attaching_attaches, attaching_keyed}
 use Rattle.gi_prop.proofs.prop.Prop.attach.Goals as goal
 
@@ -68,7 +68,7 @@ push_front-requires-clause-node c = c.in_ok-make_room.ensures.nodes.0
 pub push_front-requires-clause-free : goal.push_front-requires-clause-free
 push_front-requires-clause-free c =
     let f = free_at c.self.inside.slots.items c.self.inside.first c.args.key c.self.invariant.first_linked (λ h. c.requires.free (subst (λ (z : Attached). IsAttached z c.args.key) c.self.view_is (attached_by (record { slots = c.self.inside.slots.items; first = c.self.inside.first; second = c.self.inside.second }) c.args.key h))) in
-    subst (λ (n : ℕ). IsFree c.make_room.new.first.lists n) (sym c.number-node.ensures) (free_more _ _ c.args.key c.in_ok-make_room.ensures.first f)
+    subst (λ (n : ℕ). IsFree c.make_room.new.first.lists n) (sym c.number-node.ensures.value) (free_more _ _ c.args.key c.in_ok-make_room.ensures.first f)
 
 pub push_front-requires-2-clause-list : goal.push_front-requires-2-clause-list
 push_front-requires-2-clause-list c =
@@ -83,15 +83,27 @@ push_front-requires-2-clause-node c = c.in_ok-make_room.ensures.nodes.1
 pub push_front-requires-2-clause-free : goal.push_front-requires-2-clause-free
 push_front-requires-2-clause-free c =
     let f = free_at c.self.inside.slots.items c.self.inside.second c.args.key c.self.invariant.second_linked (λ h. c.requires.free (subst (λ (z : Attached). IsAttached z c.args.key) c.self.view_is (attached_by (record { slots = c.self.inside.slots.items; first = c.self.inside.first; second = c.self.inside.second }) c.args.key h))) in
-    subst (λ (n : ℕ). IsFree c.make_room.new.second.lists n) (sym c.number-node.ensures) (free_more _ _ c.args.key c.in_ok-make_room.ensures.second f)
+    subst (λ (n : ℕ). IsFree c.make_room.new.second.lists n) (sym c.number-node.ensures.value) (free_more _ _ c.args.key c.in_ok-make_room.ensures.second f)
 
-abbrev old_of : goal.After-push_front-2 → Attached
+first_node : (c : goal.After-set_word-2) → c.number-node.result < c.push_front.new.self.nodes
+first_node c = subst (λ (v : Lists). c.number-node.result < v.nodes) (sym c.push_front.ensures.after) c.in_ok-make_room.ensures.nodes.0
+
+second_node : (c : goal.After-set_word-2) → c.number-node.result < c.push_front-2.new.self.nodes
+second_node c = subst (λ (v : Lists). c.number-node.result < v.nodes) (sym c.push_front-2.ensures.after) c.in_ok-make_room.ensures.nodes.1
+
+pub set_word-requires : goal.set_word-requires
+set_word-requires c = subst (λ (v : Lists). c.number-node.result < v.nodes) (sym c.push_front.ensures.after) c.in_ok-make_room.ensures.nodes.0
+
+pub set_word-requires-2 : goal.set_word-requires-2
+set_word-requires-2 c = subst (λ (v : Lists). c.number-node.result < v.nodes) (sym c.push_front-2.ensures.after) c.in_ok-make_room.ensures.nodes.1
+
+abbrev old_of : goal.After-set_word-2 → Attached
 old_of c = record { slots = c.self.inside.slots.items; first = c.self.inside.first; second = c.self.inside.second }
 
-abbrev new_of : goal.After-push_front-2 → Attached
-new_of c = record { slots = set c.make_room.new.slots.items c.number-node.result (Some c.args.key); first = c.push_front.new.self; second = c.push_front-2.new.self }
+abbrev new_of : goal.After-set_word-2 → Attached
+new_of c = record { slots = set c.make_room.new.slots.items c.number-node.result (Some c.args.key); first = c.set_word.new.self; second = c.set_word-2.new.self }
 
-attaching : (c : goal.After-push_front-2) → IsAttaching (old_of c) (new_of c) c.home_of-home.result.0 c.home_of-home.result.1 c.args.key
+attaching : (c : goal.After-set_word-2) → IsAttaching (old_of c) (new_of c) c.home_of-home.result.0 c.home_of-home.result.1 c.args.key
 attaching c =
     let l = c.in_ok-make_room.ensures.lists in
     let ls = listed c.clause-clause.result.now c.top_variable.result (2 * c.top_variable.result + 3) c.top_variable.ensures.within (omega arith) in
@@ -102,13 +114,15 @@ attaching c =
       first = c.make_room.new.first;
       second = c.make_room.new.second;
       m = c.in_ok-make_room.ensures.slots.0;
-      below = (let b = c.in_ok-make_room.ensures.long in omega (arith, b, c.number-node.ensures));
+      below = (let b = c.in_ok-make_room.ensures.long in omega (arith, b, c.number-node.ensures.value));
       more = c.in_ok-make_room.ensures.slots.1;
-      is = ap (λ (n : ℕ). set c.make_room.new.slots.items n (Some c.args.key)) c.number-node.ensures;
+      is = ap (λ (n : ℕ). set c.make_room.new.slots.items n (Some c.args.key)) c.number-node.ensures.value;
       first_more = c.in_ok-make_room.ensures.first;
       second_more = c.in_ok-make_room.ensures.second;
-      first_put = put_as c.make_room.new.first c.push_front.new.self c.home_of-home.result.0 c.args.key c.number-node.result c.number-node.ensures (omega (arith, h.0, l.0)) (free_more _ _ c.args.key c.in_ok-make_room.ensures.first (free_at c.self.inside.slots.items c.self.inside.first c.args.key c.self.invariant.first_linked out)) c.push_front.ensures.after c.push_front.ensures.apart;
-      second_put = put_as c.make_room.new.second c.push_front-2.new.self c.home_of-home.result.1 c.args.key c.number-node.result c.number-node.ensures (omega (arith, h.1, l.1)) (free_more _ _ c.args.key c.in_ok-make_room.ensures.second (free_at c.self.inside.slots.items c.self.inside.second c.args.key c.self.invariant.second_linked out)) c.push_front-2.ensures.after c.push_front-2.ensures.apart;
+      first_put = put_as c.make_room.new.first c.push_front.new.self c.set_word.new.self c.home_of-home.result.0 c.args.key c.number-node.result _ c.number-node.ensures.value (omega (arith, h.0, l.0)) (free_more _ _ c.args.key c.in_ok-make_room.ensures.first (free_at c.self.inside.slots.items c.self.inside.first c.args.key c.self.invariant.first_linked out)) c.push_front.ensures.after c.set_word.ensures.after c.set_word.ensures.apart;
+      second_put = put_as c.make_room.new.second c.push_front-2.new.self c.set_word-2.new.self c.home_of-home.result.1 c.args.key c.number-node.result _ c.number-node.ensures.value (omega (arith, h.1, l.1)) (free_more _ _ c.args.key c.in_ok-make_room.ensures.second (free_at c.self.inside.slots.items c.self.inside.second c.args.key c.self.invariant.second_linked out)) c.push_front-2.ensures.after c.set_word-2.ensures.after c.set_word-2.ensures.apart;
+      first_word = put_word c.push_front.new.self c.set_word.new.self c.args.key c.number-node.result _ c.number-node.ensures.value (first_node c) c.push_front.ensures.apart c.set_word.ensures.after ∙ c.saturating_sub.ensures;
+      second_word = put_word c.push_front-2.new.self c.set_word-2.new.self c.args.key c.number-node.result _ c.number-node.ensures.value (second_node c) c.push_front-2.ensures.apart c.set_word-2.ensures.after ∙ c.saturating_sub-2.ensures;
     }
 
 pub invariant_of-self-2 : goal.invariant_of-self-2

@@ -8,19 +8,19 @@ pub index_mut-requires : goal.index_mut-requires
 index_mut-requires c =
     let at : get_or c.self.inside.slots.items c.args.key None ≡ Some c.args.key = attached_at _ c.args.key (subst (λ (p : Attached). IsAttached p c.args.key) (sym c.self.view_is) c.requires) in
     let below = slot_below c.self.inside.slots.items c.args.key at in
-    omega (arith, below, c.number-node.ensures, c.self.inside.slots.ok.0)
+    omega (arith, below, c.number-node.ensures.value, c.self.inside.slots.ok.0)
 
 pub unlink-requires : goal.unlink-requires
 unlink-requires c =
     let at : get_or c.self.inside.slots.items c.args.key None ≡ Some c.args.key = attached_at _ c.args.key (subst (λ (p : Attached). IsAttached p c.args.key) (sym c.self.view_is) c.requires) in
     let l = c.self.invariant.first_linked.linked c.args.key at in
-    rw c.number-node.ensures (l.0, l.1.place, l.1.stands)
+    rw c.number-node.ensures.value (l.0, l.1.place, l.1.stands)
 
 pub unlink-requires-2 : goal.unlink-requires-2
 unlink-requires-2 c =
     let at : get_or c.self.inside.slots.items c.args.key None ≡ Some c.args.key = attached_at _ c.args.key (subst (λ (p : Attached). IsAttached p c.args.key) (sym c.self.view_is) c.requires) in
     let l = c.self.invariant.second_linked.linked c.args.key at in
-    rw c.number-node.ensures (l.0, l.1.place, l.1.stands)
+    rw c.number-node.ensures.value (l.0, l.1.place, l.1.stands)
 
 pub invariant_of-self : goal.invariant_of-self
 invariant_of-self c =
@@ -28,15 +28,15 @@ invariant_of-self c =
     let below = slot_below c.self.inside.slots.items c.args.key at in
     let f = c.self.invariant.first_linked.linked c.args.key at in
     let s = c.self.invariant.second_linked.linked c.args.key at in
-    let df = dropped_as c.self.inside.first c.unlink.new.self f.0 c.args.key c.number-node.result c.number-node.ensures c.self.invariant.first_linked.apart f.1 c.unlink.ensures.after c.unlink.ensures.apart in
-    let ds = dropped_as c.self.inside.second c.unlink-2.new.self s.0 c.args.key c.number-node.result c.number-node.ensures c.self.invariant.second_linked.apart s.1 c.unlink-2.ensures.after c.unlink-2.ensures.apart in
-    rw c.number-node.ensures (kept_drop c.self.inside.slots.items _ _ _ _ c.args.key below df ds c.self.invariant)
+    let df = dropped_as c.self.inside.first c.unlink.new.self f.0 c.args.key c.number-node.result c.number-node.ensures.value c.self.invariant.first_linked.apart f.1 c.unlink.ensures.after c.unlink.ensures.apart in
+    let ds = dropped_as c.self.inside.second c.unlink-2.new.self s.0 c.args.key c.number-node.result c.number-node.ensures.value c.self.invariant.second_linked.apart s.1 c.unlink-2.ensures.after c.unlink-2.ensures.apart in
+    rw c.number-node.ensures.value (kept_drop c.self.inside.slots.items _ _ _ _ c.args.key below df ds c.self.invariant)
 
 pub returns-clause-detached : goal.returns-clause-detached
 returns-clause-detached c =
     let at : get_or c.self.inside.slots.items c.args.key None ≡ Some c.args.key = attached_at _ c.args.key (subst (λ (p : Attached). IsAttached p c.args.key) (sym c.self.view_is) c.requires) in
     let below = slot_below c.self.inside.slots.items c.args.key at in
-    detaches c.self.inside.slots.items c.args.key below _ _ (sym (ap (λ (z : Attached). z.slots) c.self.view_is)) (ap (λ (n : ℕ). set c.self.inside.slots.items n None) c.number-node.ensures)
+    detaches c.self.inside.slots.items c.args.key below _ _ (sym (ap (λ (z : Attached). z.slots) c.self.view_is)) (ap (λ (n : ℕ). set c.self.inside.slots.items n None) c.number-node.ensures.value)
 
 pub returns-clause-goes : goal.returns-clause-goes
 returns-clause-goes c =
@@ -44,9 +44,9 @@ returns-clause-goes c =
     let below = slot_below c.self.inside.slots.items c.args.key at in
     let f = c.self.invariant.first_linked.linked c.args.key at in
     let s = c.self.invariant.second_linked.linked c.args.key at in
-    let df = dropped_as c.self.inside.first c.unlink.new.self f.0 c.args.key c.number-node.result c.number-node.ensures c.self.invariant.first_linked.apart f.1 c.unlink.ensures.after c.unlink.ensures.apart in
-    let ds = dropped_as c.self.inside.second c.unlink-2.new.self s.0 c.args.key c.number-node.result c.number-node.ensures c.self.invariant.second_linked.apart s.1 c.unlink-2.ensures.after c.unlink-2.ensures.apart in
-    λ h t g. goes_drop (record { slots = c.self.inside.slots.items; first = c.self.inside.first; second = c.self.inside.second }) _ c.args.key below (ap (λ (n : ℕ). set c.self.inside.slots.items n None) c.number-node.ensures) df ds h t (subst (λ (z : Attached). Goes z h t) (sym c.self.view_is) g)
+    let df = dropped_as c.self.inside.first c.unlink.new.self f.0 c.args.key c.number-node.result c.number-node.ensures.value c.self.invariant.first_linked.apart f.1 c.unlink.ensures.after c.unlink.ensures.apart in
+    let ds = dropped_as c.self.inside.second c.unlink-2.new.self s.0 c.args.key c.number-node.result c.number-node.ensures.value c.self.invariant.second_linked.apart s.1 c.unlink-2.ensures.after c.unlink-2.ensures.apart in
+    λ h t g. goes_drop (record { slots = c.self.inside.slots.items; first = c.self.inside.first; second = c.self.inside.second }) _ c.args.key below (ap (λ (n : ℕ). set c.self.inside.slots.items n None) c.number-node.ensures.value) df ds h t (subst (λ (z : Attached). Goes z h t) (sym c.self.view_is) g)
 
 pub returns-clause-others : goal.returns-clause-others
 returns-clause-others c =
@@ -54,8 +54,8 @@ returns-clause-others c =
     let below = slot_below c.self.inside.slots.items c.args.key at in
     let f = c.self.invariant.first_linked.linked c.args.key at in
     let s = c.self.invariant.second_linked.linked c.args.key at in
-    let df = dropped_as c.self.inside.first c.unlink.new.self f.0 c.args.key c.number-node.result c.number-node.ensures c.self.invariant.first_linked.apart f.1 c.unlink.ensures.after c.unlink.ensures.apart in
-    let ds = dropped_as c.self.inside.second c.unlink-2.new.self s.0 c.args.key c.number-node.result c.number-node.ensures c.self.invariant.second_linked.apart s.1 c.unlink-2.ensures.after c.unlink-2.ensures.apart in
+    let df = dropped_as c.self.inside.first c.unlink.new.self f.0 c.args.key c.number-node.result c.number-node.ensures.value c.self.invariant.first_linked.apart f.1 c.unlink.ensures.after c.unlink.ensures.apart in
+    let ds = dropped_as c.self.inside.second c.unlink-2.new.self s.0 c.args.key c.number-node.result c.number-node.ensures.value c.self.invariant.second_linked.apart s.1 c.unlink-2.ensures.after c.unlink-2.ensures.apart in
     λ k ne.
-    let r = watches_drop (record { slots = c.self.inside.slots.items; first = c.self.inside.first; second = c.self.inside.second }) (record { slots = set c.self.inside.slots.items c.number-node.result None; first = c.unlink.new.self; second = c.unlink-2.new.self }) c.args.key below (ap (λ (n : ℕ). set c.self.inside.slots.items n None) c.number-node.ensures) df ds k ne in
+    let r = watches_drop (record { slots = c.self.inside.slots.items; first = c.self.inside.first; second = c.self.inside.second }) (record { slots = set c.self.inside.slots.items c.number-node.result None; first = c.unlink.new.self; second = c.unlink-2.new.self }) c.args.key below (ap (λ (n : ℕ). set c.self.inside.slots.items n None) c.number-node.ensures.value) df ds k ne in
     subst (λ (z : Attached). KeepsWatches z (record { slots = set c.self.inside.slots.items c.number-node.result None; first = c.unlink.new.self; second = c.unlink-2.new.self }) k) c.self.view_is r

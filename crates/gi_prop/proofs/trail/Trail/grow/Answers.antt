@@ -11,6 +11,7 @@ invariant_of-self-2 c =
     c.in_ok-reserve.ensures.items
     c.in_ok-reserve-2.ensures.items
     c.in_ok-reserve-3.ensures.items
+    (omega (arith, c.self.invariant.few, c.ranges.n.fits, c.saturating_sub-more.ensures, c.len.ensures, c.self.inside.places.ok.0))
     (let a = c.in_ok-reserve.ensures.ok in omega (arith, a, c.in_ok-reserve.ensures.capacity, c.saturating_sub-more.ensures, c.saturating_sub-room.ensures, c.len.ensures, c.len-2.ensures, c.self.invariant.lits_fit, c.self.inside.places.ok.0, c.self.inside.lits.ok.0))
     (let a = c.in_ok-reserve-2.ensures.ok in omega (arith, a, c.in_ok-reserve-2.ensures.capacity, c.saturating_sub-more.ensures, c.saturating_sub-room.ensures, c.len.ensures, c.len-2.ensures, c.self.invariant.reasons_fit, c.self.invariant.aligned, c.self.inside.places.ok.0, c.self.inside.lits.ok.0, c.self.inside.reasons.ok.0))
     (let a = c.in_ok-reserve-3.ensures.ok in omega (arith, a, c.in_ok-reserve-3.ensures.capacity, c.saturating_sub-more.ensures, c.saturating_sub-room.ensures, c.len.ensures, c.len-2.ensures, c.self.invariant.levels_fit, c.self.invariant.leveled.count, c.self.inside.places.ok.0, c.self.inside.lits.ok.0, c.self.inside.levels.ok.0))
