@@ -1,8 +1,8 @@
 -- What a false assumption goes back to, and that levels are led by assumptions.
-use Rattle.std.proofs.Common.{◌≡◌, ◌≢◌, ℕ, ◌+◌, ◌/◌, ◌<◌, ◌≤◌, Bool, true, false, None, List, [], ◌∷◌, ◌++◌, length, take, get_or, set, replicate, refl, sym, ap, ◌∙◌, subst, arith, ◌⊎◌, inl, inr, length-append}
+use Rattle.std.proofs.Common.{◌≡◌, ◌≢◌, ℕ, ◌+◌, ◌/◌, ◌<◌, ◌≤◌, Bool, true, false, None, List, [], ◌∷◌, ◌++◌, length, take, get_or, set, refl, sym, ap, ◌∙◌, subst, arith, ◌⊎◌, inl, inr, length-append}
 use Rattle.std.specs.List.{All, Contains}
 use Rattle.std.proofs.lemmas.Bool.{cases_lt, cases_eq, false≢true}
-use Rattle.std.proofs.lemmas.List.{get_or-take, get_or_default, length-replicate, get_or_append_left, get_or_push, take_all, take_more, get_or_read, take-append-le, length-set, get_or-set_same, take-take, length-take, length-take-le}
+use Rattle.std.proofs.lemmas.List.{get_or-take, get_or_default, get_or_append_left, get_or_push, take_all, take_more, get_or_read, take-append-le, length-set, get_or-set_same, take-take, length-take, length-take-le}
 use Rattle.std.proofs.lemmas.List.Elements.{Contains-append_left, Contains-push, Contains-push_cases, All-contains, Contains-get_or}
 use Rattle.gi_lit.specs.Literals.{opposite}
 use Rattle.gi_lit.specs.Lists.{IsSublist}
@@ -21,7 +21,7 @@ use Rattle.gi_cdcl.proofs.Uip.{holds_stored}
 use Rattle.gi_cdcl.proofs.Trails.{Grows}
 
 pub record Tracing (h : Held) (t : Assigned) (failed : ℕ) (seen : List Bool) (at : ℕ) : Type 0 where
-  pub len : length seen ≡ length t.lits
+  pub len : length t.lits ≤ length seen
   pub at_le : at ≤ length t.lits
   pub leads : LeadsFrom h t failed seen at
 
@@ -39,18 +39,18 @@ sublist_push (w ∷ ws) (z ∷ zs) x (inl h) = inl (h.0, sublist_push ws zs x h.
 sublist_push (w ∷ ws) (z ∷ zs) x (inr h) = inr (sublist_push (w ∷ ws) zs x h)
 
 module _ (h : Held) (t : Assigned) (tr : IsTrail t) (failed : ℕ) where
-  pub Tracing-init : Contains t.lits (opposite failed) → (p : ℕ) → StandsAt t.lits (failed / 2) p → Tracing h t failed (set (replicate (length t.lits) false) p true) (length t.lits)
-  Tracing-init f p st =
+  pub Tracing-init : Contains t.lits (opposite failed) → (p : ℕ) → StandsAt t.lits (failed / 2) p → (old : List Bool) → length t.lits ≤ length old → Tracing h t failed (set old p true) (length t.lits)
+  Tracing-init f p st old room =
       let q : get_or t.lits f.0 0 ≡ opposite failed = get_or_default t.lits f.0 0 (opposite failed) f.1 ∙ f.2 in
       let e : p ≡ f.0 = tr.apart p f.0 st.below f.1 (st.names ∙ sym (ap (λ n. n / 2) q ∙ var-opposite failed)) in
-      let len : length (replicate (length t.lits) false) ≡ length t.lits = length-replicate (length t.lits) false in
+      let inside : p < length old = let b = st.below in omega arith in
       record {
-        len = length-set (replicate (length t.lits) false) p true ∙ len;
+        len = omega (arith, length-set old p true);
         at_le = omega arith;
         leads = λ given d dd known m. record {
           lits = d;
           derived = dd;
-          clash = inl (failed, known, subst (Contains d) (ap (λ n. get_or t.lits n 0) e ∙ q) (m p st.below (get_or-set_same (replicate (length t.lits) false) p true false (rw len st.below)) (inl st.below)));
+          clash = inl (failed, known, subst (Contains d) (ap (λ n. get_or t.lits n 0) e ∙ q) (m p st.below (get_or-set_same old p true false inside) (inl st.below)));
         };
       }
 
@@ -75,7 +75,7 @@ module _ (h : Held) (t : Assigned) (tr : IsTrail t) (failed : ℕ) where
 
     pub Tracing-step : (clause : List ℕ) (key : ℕ) → Holds h key clause → Forces clause (get_or t.lits a 0) (take a t.lits) → (start : ℕ) (new : List Bool) (more : ℕ) → Marks t.lits clause start a seen new more → Tracing h t failed new a
     Tracing-step clause key c f start new more m = record {
-      len = m.len ∙ r.len;
+      len = let n = m.len in let z = r.len in omega (arith, n, z);
       at_le = let x = r.at_le in omega arith;
       leads = λ given d dd known p.
           r.leads given (d ++ get_or t.lits a 0 ∷ [])

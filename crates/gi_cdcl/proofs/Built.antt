@@ -1,52 +1,76 @@
 -- Building the clause of the marked places.
-use Rattle.std.proofs.Common.{◌≡◌, ◌≢◌, ℕ, ◌+◌, ◌-◌, ◌/◌, ◌<◌, Bool, true, false, Option, Some, None, List, [], ◌∷◌, ◌++◌, length, get_or, refl, sym, ap, ◌∙◌, subst, arith, inl, inr}
+use Rattle.std.proofs.Common.{◌≡◌, ℕ, ◌-◌, ◌/◌, ◌<◌, ◌≤◌, Bool, true, false, Option, Some, None, List, [], ◌∷◌, ◌++◌, length, get_or, refl, sym, ap, ◌∙◌, subst, arith, inl, inr}
 use Rattle.std.specs.List.{Contains}
-use Rattle.std.proofs.lemmas.Bool.{cases_lt, cases_eq, false≢true}
+use Rattle.std.proofs.lemmas.Bool.{cases_lt, cases_eq, cases_Bool, false≢true}
 use Rattle.std.proofs.lemmas.List.Elements.{Contains-append_left, Contains-push, Contains-push_cases}
 use Rattle.gi_lit.specs.Literals.{opposite}
 use Rattle.gi_lit.proofs.Literals.{opposite-injective}
 use Rattle.gi_store.specs.Held.{Held}
 use Rattle.gi_prop.specs.Assigned.{Assigned, IsLevelAt, IsTrail}
 use Rattle.gi_cdcl.specs.Uip.{IsUip, IsJump}
-use Rattle.gi_cdcl.specs.Marks.{IsMarked, IsCut, IsBuilt, IsLast}
+use Rattle.gi_cdcl.specs.Marks.{IsCut, IsBuilt, IsLast, IsLastOf, IsLastIn, IsAmong, IsBuiltOf}
+use Rattle.gi_cdcl.specs.Touched.{AreMarked}
+use Rattle.gi_cdcl.proofs.Lists.{Contains-nil}
 
-pub built_top : (lits : List ℕ) (seen : List Bool) (top : ℕ) → IsBuilt lits seen top 0 (opposite (get_or lits top 0) ∷ []) None
-built_top lits seen top = record {
+pub built_top : (lits touched : List ℕ) (top n : ℕ) → IsBuiltOf lits [] top n (opposite (get_or lits top 0) ∷ []) None
+built_top lits touched top n = record {
   stands = (0, omega arith, refl);
-  all = λ k lt. absurd (omega arith);
-  only = λ m c. elim (Contains-push_cases [] (opposite (get_or lits top 0)) m c) [ inl none ↦ absurd (omega (arith, none.1)) | inr e ↦ inl (sym e) ];
-  last_is = λ k lt. absurd (omega arith);
+  all = λ k c lt. absurd (Contains-nil k c);
+  only = λ m c. elim (Contains-push_cases [] (opposite (get_or lits top 0)) m c) [ inl none ↦ absurd (Contains-nil m none) | inr e ↦ inl (sym e) ];
+  last_is = λ k c. absurd (Contains-nil k c);
 }
 
-module _ (lits : List ℕ) (seen : List Bool) (top n : ℕ) (clause : List ℕ) (last : Option ℕ) (h : IsBuilt lits seen top n clause last) where
-  marked_more : (m : ℕ) → IsMarked lits seen n m → IsMarked lits seen (n + 1) m
-  marked_more m k = record { place = k.place; before = let b = k.before in omega arith; flag = k.flag; is = k.is }
+module _ (lits front : List ℕ) (x top n : ℕ) (clause : List ℕ) (last : Option ℕ) (h : IsBuiltOf lits front top n clause last) where
+  among_more : (m : ℕ) → IsAmong lits front n m → IsAmong lits (front ++ x ∷ []) n m
+  among_more m k = record { place = k.place; inside = Contains-append_left front (x ∷ []) k.place k.inside; before = k.before; is = k.is }
 
-  pub built_skip : get_or seen n false ≡ false → IsBuilt lits seen top (n + 1) clause last
-  built_skip e = record {
+  pub built_skip : n ≤ x → IsBuiltOf lits (front ++ x ∷ []) top n clause last
+  built_skip high = record {
     stands = h.stands;
-    all = λ k kl q. elim (cases_eq k n) [ inl same ↦ absurd (false≢true (sym e ∙ ap (λ i. get_or seen i false) (sym same) ∙ q)) | inr other ↦ h.all k (omega arith) q ];
-    only = λ m c. elim (h.only m c) [ inl e ↦ inl e | inr k ↦ inr (marked_more m k) ];
+    all = λ k c lt. elim (Contains-push_cases front x k c) [ inl old ↦ h.all k old lt | inr e ↦ absurd (omega (arith, e, high, lt)) ];
+    only = λ m c. elim (h.only m c) [ inl e ↦ inl e | inr k ↦ inr (among_more m k) ];
     last_is = go last h.last_is;
   }
     where
-      at : (k : ℕ) → k < n + 1 → k ≢ n → k < n
-      at k lt ne = omega arith
+      go : (o : Option ℕ) → IsLastIn front n o → IsLastIn (front ++ x ∷ []) n o
+      go None q = λ k c. elim (Contains-push_cases front x k c) [ inl old ↦ q k old | inr e ↦ omega (arith, e, high) ]
+      go (Some p) q = (q.0, Contains-append_left front (x ∷ []) p q.1, λ k c lt. elim (Contains-push_cases front x k c) [ inl old ↦ q.2 k old lt | inr e ↦ absurd (omega (arith, e, high, lt)) ])
 
-      go : (o : Option ℕ) → IsLast seen n o → IsLast seen (n + 1) o
-      go None q = λ k lt. elim (cases_eq k n) [ inl same ↦ rw same e | inr other ↦ q k (omega arith) ]
-      go (Some p) q = (omega (arith, q.0), q.1, λ k pk lt. elim (cases_eq k n) [ inl same ↦ rw same e | inr other ↦ q.2 k pk (omega arith) ])
-
-  pub built_push : get_or seen n false ≡ true → IsBuilt lits seen top (n + 1) (clause ++ opposite (get_or lits n 0) ∷ []) (Some n)
-  built_push e = record {
+  pub built_push : x < n → (l : ℕ) → IsLastOf last x l → IsBuiltOf lits (front ++ x ∷ []) top n (clause ++ opposite (get_or lits x 0) ∷ []) (Some l)
+  built_push low l g = record {
     stands = Contains-append_left clause _ _ h.stands;
-    all = λ k kl q. elim (cases_eq k n) [ inl same ↦ rw same (Contains-push clause _) | inr other ↦ Contains-append_left clause _ _ (h.all k (omega arith) q) ];
-    only = λ m c. elim (Contains-push_cases clause (opposite (get_or lits n 0)) m c) [
-      | inl old ↦ elim (h.only m old) [ inl e ↦ inl e | inr k ↦ inr (marked_more m k) ]
-      | inr new ↦ inr (record { place = n; before = omega arith; flag = e; is = sym new })
+    all = λ k c lt. elim (Contains-push_cases front x k c) [ inl old ↦ Contains-append_left clause _ _ (h.all k old lt) | inr e ↦ subst (λ (y : ℕ). Contains (clause ++ opposite (get_or lits x 0) ∷ []) (opposite (get_or lits y 0))) e (Contains-push clause _) ];
+    only = λ m c. elim (Contains-push_cases clause (opposite (get_or lits x 0)) m c) [
+      | inl old ↦ elim (h.only m old) [ inl e ↦ inl e | inr k ↦ inr (among_more m k) ]
+      | inr new ↦ inr (record { place = x; inside = Contains-push front x; before = low; is = sym new })
     ];
-    last_is = (omega arith, e, λ k nk lt. absurd (omega arith));
+    last_is = go last h.last_is g;
   }
+    where
+      go : (o : Option ℕ) → IsLastIn front n o → IsLastOf o x l → IsLastIn (front ++ x ∷ []) n (Some l)
+      go None q e = (
+        omega (arith, e, low),
+        subst (Contains (front ++ x ∷ [])) (sym e) (Contains-push front x),
+        λ k c lt. elim (Contains-push_cases front x k c) [ inl old ↦ absurd (let b = q k old in omega (arith, b, lt)) | inr same ↦ omega (arith, same, e) ],
+      )
+      go (Some p) q e = (
+        elim e.2 [ inl a ↦ let b = q.0 in omega (arith, a, b) | inr a ↦ omega (arith, a, low) ],
+        elim e.2 [ inl a ↦ subst (Contains (front ++ x ∷ [])) (sym a) (Contains-append_left front (x ∷ []) p q.1) | inr a ↦ subst (Contains (front ++ x ∷ [])) (sym a) (Contains-push front x) ],
+        λ k c lt. elim (Contains-push_cases front x k c) [ inl old ↦ let b = q.2 k old lt in let a = e.0 in omega (arith, a, b) | inr same ↦ let a = e.1 in omega (arith, same, a) ],
+      )
+
+-- the touched places are the marked ones
+pub built_marked : (lits : List ℕ) (seen : List Bool) (touched : List ℕ) (top n : ℕ) (clause : List ℕ) (last : Option ℕ) → AreMarked seen touched → IsBuiltOf lits touched top n clause last → IsBuilt lits seen top n clause last
+built_marked lits seen touched top n clause last a b = record {
+  stands = b.stands;
+  all = λ k lt e. b.all k (a.all k e) lt;
+  only = λ m c. elim (b.only m c) [ inl e ↦ inl e | inr k ↦ inr (record { place = k.place; before = k.before; flag = a.only k.place k.inside; is = k.is }) ];
+  last_is = go last b.last_is;
+}
+  where
+    go : (o : Option ℕ) → IsLastIn touched n o → IsLast seen n o
+    go None q = λ k lt. elim (cases_Bool (get_or seen k false)) [ inl up ↦ absurd (let b = q k (a.all k up) in omega (arith, b, lt)) | inr down ↦ down ]
+    go (Some p) q = (q.0, a.only p q.1, λ k pk lt. elim (cases_Bool (get_or seen k false)) [ inl up ↦ absurd (let b = q.2 k (a.all k up) lt in omega (arith, b, pk)) | inr down ↦ down ])
 
 module _ (h : Held) (t : Assigned) (tr : IsTrail t) (conflict : List ℕ) (start : ℕ) (seen : List Bool) (top : ℕ) (clause : List ℕ) (last : Option ℕ) (c : IsCut h t conflict start seen top) (b : IsBuilt t.lits seen top start clause last) where
   start_low : start < length t.lits

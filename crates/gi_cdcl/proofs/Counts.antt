@@ -1,7 +1,8 @@
 -- Counting marks.
-use Rattle.std.proofs.Common.{◌≡◌, ℕ, zero, suc, ◌+◌, ◌-◌, ◌<◌, ◌≤◌, Bool, true, false, cond, nat_lt, List, [], ◌∷◌, length, get_or, set, replicate, refl, sym, ap, ◌∙◌, arith, inl, inr, add-one, zero-add}
+use Rattle.std.proofs.Common.{◌≡◌, ℕ, zero, suc, ◌+◌, ◌-◌, ◌<◌, ◌≤◌, Bool, true, false, cond, nat_lt, List, [], ◌∷◌, length, get_or, set, refl, sym, ap, ◌∙◌, arith, inl, inr, add-one, zero-add}
 use Rattle.std.proofs.lemmas.Bool.{le-ltb, lt-ltb, cases_lt}
 use Rattle.gi_cdcl.specs.Marks.{marked}
+use Rattle.gi_cdcl.specs.Touched.{IsBlank}
 
 pub marked-le : (n : ℕ) (bs : List Bool) → marked n bs ≤ n
 marked-le zero bs = omega arith
@@ -28,10 +29,10 @@ marked-set (suc n) [] i lt e = absurd (omega arith)
 marked-set (suc n) (b ∷ bs) zero lt e = let f : nat_lt 0 (suc n) ≡ true = lt-ltb 0 (suc n) (omega arith) in rw (e, f) (omega arith)
 marked-set (suc n) (b ∷ bs) (suc i) lt e = let h : marked n (set bs i true) ≡ marked n bs + cond (nat_lt i n) 1 0 = marked-set n bs i (omega arith) e in rw nat_lt-suc (omega (arith, h))
 
-pub marked-replicate : (n m : ℕ) → marked n (replicate m false) ≡ 0
-marked-replicate zero m = refl
-marked-replicate (suc n) zero = refl
-marked-replicate (suc n) (suc m) = omega (arith, marked-replicate n m)
+-- where none is marked
+pub marked_blank : (bs : List Bool) → IsBlank bs → (n : ℕ) → marked n bs ≡ 0
+marked_blank bs blank zero = refl
+marked_blank bs blank (suc n) = let m : marked (suc n) bs ≡ marked n bs + 0 = rw (blank n) at (marked-suc n bs) in omega (arith, m, marked_blank bs blank n)
 
 pub marked-mono : (bs : List Bool) (a n : ℕ) → marked a bs ≤ marked (n + a) bs
 marked-mono bs a zero = rw zero-add (omega arith)

@@ -5,8 +5,10 @@ use Rattle.std.proofs.lemmas.Bool.{eqb-false, ne_eqb}
 use Rattle.std.proofs.lemmas.List.{length-map, get_or-map, get_or_append_left}
 use Rattle.std.proofs.lemmas.List.Elements.{All-append, All-from_get_or, Contains-get_or, Contains-append_right}
 use Rattle.std.proofs.lemmas.Option.{slice_get_within, get_or_from_slice_get}
-use Rattle.gi_lit.specs.Problem.{Pair, full, guarded}
-use Rattle.gi_store.specs.Held.{Entry, PairEntry, Held, Holds, entries, full_entry, keys_of, problem_of, known_of, at_place}
+use Rattle.gi_lit.specs.Problem.{clause_count, full}
+use Rattle.gi_lit.proofs.Resting.{length-full}
+use Rattle.gi_store.specs.Held.{Entry, Held, Holds, entries, keys_of, problem_of, known_of, at_place}
+use Rattle.gi_store.proofs.Edits.{group_in}
 use Rattle.gi_cdcl.specs.Sound.{stored}
 use Rattle.gi_cdcl.proofs.Teaching.{stored_is}
 
@@ -32,30 +34,28 @@ stored_at h i key e =
       get_or-map (λ (x : Entry). x.lits) (entries h) i none [] lt,
     )
 
-abbrev pair_in : PairEntry → Pair
-pair_in q = record { guard = q.guard; clause = q.clause }
-
-full_length : (h : Held) → length (full (problem_of h)) ≡ length h.plain + length h.pairs
-unfolding full
-full_length h =
+-- how many clauses of the problem are stored
+pub count_is : (h : Held) → clause_count (problem_of h) ≡ length h.plain + length h.groups
+count_is h =
     let a : length (problem_of h).plain ≡ length h.plain = length-map h.plain (λ (e : Entry). e.lits) in
-    let b : length (map guarded (problem_of h).pairs) ≡ length (problem_of h).pairs = length-map (problem_of h).pairs guarded in
-    let d : length (problem_of h).pairs ≡ length h.pairs = length-map h.pairs pair_in in
-    length-append (problem_of h).plain (map guarded (problem_of h).pairs) ∙ omega (arith, a, b, d)
+    let b : length (problem_of h).groups ≡ length h.groups = length-map h.groups group_in in
+    omega (arith, a, b)
 
-pub none_empty : (h : Held) → ((j : ℕ) → j < length h.plain + length h.pairs → 0 < length (get_or (stored h) j [])) → All (λ c. 0 < length c) (known_of h) → All (λ c. 0 < length c) (stored h)
-none_empty h problem known =
-    subst (All (λ c. 0 < length c)) (sym (stored_is h)) (All-append (λ c. 0 < length c) (full (problem_of h)) (known_of h)
-    (All-from_get_or (λ c. 0 < length c) (full (problem_of h)) [] (λ j lt. subst (λ (xs : List ℕ). 0 < length xs) (ap (λ (cs : List (List ℕ)). get_or cs j []) (stored_is h) ∙ get_or_append_left (full (problem_of h)) (known_of h) [] j lt) (problem j (omega (arith, lt, full_length h)))))
-    known)
+-- where no stored clause of the problem is empty, no full clause is
+pub full_nonempty : (h : Held) → ((j : ℕ) → j < length h.plain + length h.groups → 0 < length (get_or (stored h) j [])) → All (λ c. 0 < length c) (full (problem_of h))
+full_nonempty h problem =
+    All-from_get_or (λ c. 0 < length c) (full (problem_of h)) [] (λ j lt. subst (λ (xs : List ℕ). 0 < length xs)
+    (ap (λ (cs : List (List ℕ)). get_or cs j []) (stored_is h) ∙ get_or_append_left (full (problem_of h)) (known_of h) [] j lt)
+    (problem j (omega (arith, lt, length-full (problem_of h), count_is h))))
+
+pub none_empty : (h : Held) → All (λ c. 0 < length c) (full (problem_of h)) → All (λ c. 0 < length c) (known_of h) → All (λ c. 0 < length c) (stored h)
+none_empty h problem known = subst (All (λ c. 0 < length c)) (sym (stored_is h)) (All-append (λ c. 0 < length c) (full (problem_of h)) (known_of h) problem known)
 
 pub known_empty : (h : Held) → Contains (known_of h) [] → Contains (stored h) []
 known_empty h k = subst (λ (cs : List (List ℕ)). Contains cs []) (sym (stored_is h)) (Contains-append_right (full (problem_of h)) (known_of h) [] k)
 
-pub keys_length : (h : Held) → length (keys_of h) ≡ length h.plain + length h.pairs + length (known_of h)
+pub keys_length : (h : Held) → length (keys_of h) ≡ length h.plain + length h.groups + length (known_of h)
 keys_length h =
-    let a : length (keys_of h) ≡ length (entries h) = length-map (entries h) (λ (e : Entry). e.key) in
-    let b : length (known_of h) ≡ length h.learnt = length-map h.learnt (λ (e : Entry). e.lits) in
-    let d : length (map full_entry h.pairs) ≡ length h.pairs = length-map h.pairs full_entry in
-    let e : length (map full_entry h.pairs ++ h.learnt) ≡ length (map full_entry h.pairs) + length h.learnt = length-append (map full_entry h.pairs) h.learnt in
-    a ∙ length-append h.plain (map full_entry h.pairs ++ h.learnt) ∙ omega (arith, b, d, e)
+    let a : length (keys_of h) ≡ length (stored h) = length-map (entries h) (λ (e : Entry). e.key) ∙ sym (length-map (entries h) (λ (e : Entry). e.lits)) in
+    let b : length (stored h) ≡ length (full (problem_of h)) + length (known_of h) = ap (λ (cs : List (List ℕ)). length cs) (stored_is h) ∙ length-append (full (problem_of h)) (known_of h) in
+    omega (arith, a, b, length-full (problem_of h), count_is h)

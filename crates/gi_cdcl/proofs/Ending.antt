@@ -3,23 +3,24 @@ use Rattle.std.proofs.Common.{◌≡◌, ℕ, ◌+◌, ◌*◌, ◌/◌, ◌≤�
 use Rattle.std.specs.List.{All, Contains}
 use Rattle.std.proofs.lemmas.Bool.{cases_Bool, false≢true}
 use Rattle.std.proofs.lemmas.List.{map-append}
-use Rattle.std.proofs.lemmas.List.Elements.{All-nil, All-cons, All-head, All-tail, All-contains, Contains-append_left}
+use Rattle.std.proofs.lemmas.List.Elements.{All-nil, All-cons, All-head, All-tail, All-contains, Contains-append_left, Contains-get_or}
 use Rattle.std.proofs.lemmas.List.Folds.{list_any_at, list_any_none}
 use Rattle.gi_lit.specs.Lists.{IsSublist}
 use Rattle.gi_lit.specs.Truth.{true_in, clause_true, Satisfies, MakesTrue}
 use Rattle.gi_lit.specs.Closure.{Conflicts, IsClosed}
 use Rattle.gi_lit.specs.Problem.{Problem, full, force, IsWellFormed}
-use Rattle.gi_lit.specs.Laws.{IsReleased}
+use Rattle.gi_lit.specs.Guards.{IsLess}
 use Rattle.gi_lit.specs.Learnt.{IsImplied}
 use Rattle.gi_lit.proofs.Closure.{conflicts_fail, Conflicts-more}
 use Rattle.gi_lit.proofs.Growing.{Satisfies-fewer}
 use Rattle.gi_lit.proofs.Guarding.{guards_sound}
-use Rattle.gi_lit.proofs.Releasing.{forced_are_full}
+use Rattle.gi_lit.proofs.Resting.{rests}
 use Rattle.gi_store.specs.Held.{Entry, Held, Holds, IsWithin, Keeps, problem_of, known_of, with_learnt}
 use Rattle.gi_store.specs.Whole.{IsWhole}
 use Rattle.gi_cdcl.specs.Sound.{stored}
 use Rattle.gi_cdcl.specs.Values.{AllAssigned, IsAssignment}
-use Rattle.gi_cdcl.specs.Ends.{IsModel, IsFailing, Learns, EndsSlice, Slices}
+use Rattle.gi_lit.specs.Ends.{IsModel, IsFailing}
+use Rattle.gi_cdcl.specs.Ends.{Learns, EndsSlice, Slices}
 use Rattle.gi_cdcl.specs.Searching.{AreKnown}
 use Rattle.gi_cdcl.specs.Going.{HasLearnt}
 use Rattle.gi_cdcl.specs.Finish.{Finishes}
@@ -38,14 +39,14 @@ guard_false values g h = grind arith
 
 -- values that satisfy the full clauses and make the assumptions true satisfy the clauses in force
 pub satisfies_force : (p : Problem) (given : List ℕ) (values : List Bool) → IsWellFormed p → Satisfies values (full p) → MakesTrue values given → Satisfies values (force p given)
-satisfies_force p given values w s m = record { each = λ k d lt. let r = forced_are_full p given w k d lt in go (get_or (force p given) k d) r.0 (All-contains (λ c. clause_true values c ≡ true) (full p) r.0 s.each r.1) r.2 }
+satisfies_force p given values w s m = record { each = λ k d lt. let r = (rests p given w).in_force (get_or (force p given) k d) (Contains-get_or (force p given) k d lt) in go (get_or (force p given) k d) r.0 (All-contains (λ c. clause_true values c ≡ true) (full p) r.0 s.each r.1) r.2 }
   where
-    go : (d c : List ℕ) → clause_true values c ≡ true → IsReleased p given d c → clause_true values d ≡ true
+    go : (d c : List ℕ) → clause_true values c ≡ true → IsLess p given c d → clause_true values d ≡ true
     go d c t r = elim (cases_Bool (clause_true values d)) [
       | inl yes' ↦ yes'
       | inr none ↦ absurd (false≢true (sym (list_any_none (true_in values) c (λ k e lt. elim (r.others k e lt) [
         | inl inside ↦ elim (cases_Bool (true_in values (get_or c k e))) [ inl up ↦ absurd (false≢true (sym none ∙ list_any_at (true_in values) d inside.0 (get_or c k e) inside.1 (ap (true_in values) inside.2 ∙ up))) | inr down ↦ down ]
-        | inr g ↦ ap (true_in values) g.3 ∙ guard_false values g.0 (All-contains (λ l. true_in values l ≡ true) given (2 * g.0) m.each g.2)
+        | inr g ↦ ap (true_in values) g.negative ∙ guard_false values g.guard (All-contains (λ l. true_in values l ≡ true) given (2 * g.guard) m.each g.stands)
       ])) ∙ t))
     ]
 

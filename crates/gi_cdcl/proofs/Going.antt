@@ -3,9 +3,10 @@ use Rattle.std.proofs.Common.{◌≡◌, ℕ, ◌+◌, ◌-◌, ◌/◌, ◌<◌
 use Rattle.std.specs.List.{All, Contains}
 use Rattle.std.proofs.lemmas.Bool.{cases_lt}
 use Rattle.std.proofs.lemmas.List.{map-append, append-nil, get_or_push, get_or_default}
-use Rattle.std.proofs.lemmas.List.Elements.{All-push, All-map, All-weaker, Contains-get_or, Contains-append_left, Contains-push, Contains-push_cases}
+use Rattle.std.proofs.lemmas.List.Elements.{All-contains, All-push, All-map, All-weaker, Contains-get_or, Contains-append_left, Contains-push, Contains-push_cases}
 use Rattle.gi_lit.specs.Literals.{opposite}
 use Rattle.gi_lit.specs.Closure.{IsFalsified, IsSettled, IsClosed, Conflicts}
+use Rattle.gi_lit.specs.Closure.IsSettled.{has_true, has_two}
 use Rattle.gi_lit.specs.Problem.{Problem, IsWellFormed}
 use Rattle.gi_lit.specs.Learnt.{IsImplied, IsFresh, IsDerived, AreFresh}
 use Rattle.gi_lit.proofs.Literals.{var-opposite}
@@ -17,13 +18,14 @@ use Rattle.gi_cdcl.specs.Sound.{stored, IsUsed, IsSupported, IsSound}
 use Rattle.gi_cdcl.specs.Uip.{IsUip, IsJump}
 use Rattle.gi_cdcl.specs.Values.{IsPassed}
 use Rattle.gi_cdcl.specs.Assumed.{IsLed}
-use Rattle.gi_cdcl.specs.Ends.{EndsNonempty, IsTaught, AreTaught}
+use Rattle.gi_lit.specs.Ends.{EndsNonempty}
+use Rattle.gi_cdcl.specs.Ends.{IsFull, IsTaught, AreTaught}
 use Rattle.gi_cdcl.specs.Searching.{AreKnown}
 use Rattle.gi_cdcl.specs.Laws.{LearntClausesStayKnown}
 use Rattle.gi_cdcl.specs.Going.{AreAttached, IsTied, IsReady, HasPassed, IsGoing, HasLearnt}
 use Rattle.gi_cdcl.proofs.Lists.{front_contains}
 use Rattle.gi_cdcl.proofs.Uip.{holds_stored, holds_live, uip_one_high}
-use Rattle.gi_cdcl.proofs.Trails.{Grows, entries_learnt, IsSound-learnt, IsSound-grows, IsSound-decide, IsSound-cut, IsLeveled-grows, IsLeveled-decide, IsLeveled-jump}
+use Rattle.gi_cdcl.proofs.Trails.{Grows, entries_learnt, stored_more_all, IsSound-learnt, IsSound-grows, IsSound-decide, IsSound-cut, IsLeveled-grows, IsLeveled-decide, IsLeveled-jump}
 use Rattle.gi_cdcl.proofs.Fresh.{uip_fresh, empty_fresh, root_conflict, AreFresh-push}
 use Rattle.gi_cdcl.proofs.Assuming.{IsLed-grows, IsLed-decide, IsLed-cut}
 use Rattle.gi_cdcl.proofs.Stores.{used_within, all_used}
@@ -192,7 +194,7 @@ module _ (h : Held) (w : IsWellFormed (problem_of h)) (f : AreKnown h) (t : Assi
   learnt_within = λ k d lt. used_within h w _ (learnt_fresh.0.within k d lt)
 
   pub learnt_taught : IsTaught h learnt
-  learnt_taught = record { trail = t; is_trail = tr; sound = r.sound; key = key; conflict = conflict; holds = held; falsified = false'; teaches = inr (deep, u) }
+  learnt_taught = record { trail = t; is_trail = tr; sound = r.sound; leveled = r.leveled; key = key; conflict = conflict; holds = held; falsified = false'; teaches = inr (deep, u) }
 
   pub learnt_nonempty : 0 < length learnt
   learnt_nonempty = let o = uip_one_high h t conflict _ false' learnt u in let s = o.stands in omega (arith, s.1)
@@ -222,7 +224,7 @@ module _ (h : Held) (f : AreKnown h) (t : Assigned) (tr : IsTrail t) (s : IsSoun
   empty_is_fresh full' = empty_fresh h (stored_is h) f.implied full' empty_conflicts
 
   pub empty_taught : IsTaught h []
-  empty_taught = record { trail = t; is_trail = tr; sound = s; key = key; conflict = conflict; holds = held; falsified = false'; teaches = inl (root, refl) }
+  empty_taught = record { trail = t; is_trail = tr; sound = s; leveled = record { closed = λ j lt. absurd (let n : length t.marks ≡ 0 = ap length root in omega arith) }; key = key; conflict = conflict; holds = held; falsified = false'; teaches = inl (root, refl) }
 
 pub going_passed : (p : Attached) (h : Held) (t : Assigned) (assumed : List ℕ) (v0 l0 vars lits : ℕ) → IsGoing p h t assumed v0 l0 → HasPassed h t assumed vars lits → IsGoing p h t assumed vars lits
 going_passed p h t assumed v0 l0 vars lits g passed = record { known = g.known; tied = g.tied; ready = g.ready; led = g.led; within = g.within; passed = passed }
@@ -236,8 +238,8 @@ last_is old new c e =
 pub adds_learnt : (old new : List (List ℕ)) (c : List ℕ) → new ≡ old ++ c ∷ [] → 0 < length c → (length new ≡ length old + 1) × EndsNonempty new
 adds_learnt old new c e lt = let l = last_is old new c e in let n = l.0 in (n, (omega (arith, n), subst (λ (xs : List ℕ). 0 < length xs) (sym l.1) lt))
 
-pub adds_refuted : (old new : List (List ℕ)) → new ≡ old ++ [] ∷ [] → (length new ≡ length old + 1) × ¬ EndsNonempty new
-adds_refuted old new e = let l = last_is old new [] e in (l.0, λ q. let z : 0 < length (get_or new (length new - 1) []) = q.1 in let y : length (get_or new (length new - 1) []) ≡ 0 = ap (λ (xs : List ℕ). length xs) l.1 in omega (arith, z, y))
+pub adds_refuted : (old new : List (List ℕ)) → new ≡ old ++ [] ∷ [] → (length new ≤ length old + 1) × ((limit : ℕ) → length old < limit → ¬ IsFull limit new)
+adds_refuted old new e = let l = last_is old new [] e in let n = l.0 in (omega (arith, n), λ limit low f. let q = f.1 in let z : 0 < length (get_or new (length new - 1) []) = q.1 in let y : length (get_or new (length new - 1) []) ≡ 0 = ap (λ (xs : List ℕ). length xs) l.1 in omega (arith, z, y))
 
 -- the trail is empty
 pub going_start : (p : Attached) (h : Held) (t : Assigned) (assumed : List ℕ) → IsWellFormed (problem_of h) → AreKnown h → AreAttached p h t → t ≡ no_lits t.vars → h.vars ≤ t.vars → IsWithin h.vars assumed → IsGoing p h t assumed 0 0
@@ -265,3 +267,23 @@ stay_known old new news l f k =
     let is : known_of now ≡ known_of old ++ news = map-append (λ (e : Entry). e.lits) old.learnt l.entries ∙ ap (λ (xs : List (List ℕ)). known_of old ++ xs) (sym l.are) in
     let r = news_known old (known_of old) news f k.implied k.used in
     subst AreKnown (sym l.new_is) (record { implied = subst (All (IsImplied (problem_of old))) (sym is) r.0; used = subst (All (All (IsUsed old))) (sym is) r.1 })
+
+-- with nothing new
+pub adds_none : (old new : List (List ℕ)) → new ≡ old → (length new ≤ length old + 1) × ((limit : ℕ) → length old < limit → ¬ IsFull limit new)
+adds_none old new e = let n : length new ≡ length old = ap (λ (xs : List (List ℕ)). length xs) e in (omega (arith, n), λ limit low f. let q = f.0 in omega (arith, n, q, low))
+
+-- an empty clause isn't settled
+nothing_settled : (lits : List ℕ) → IsSettled lits [] → ⊥
+nothing_settled lits (has_true l inside known) = omega (arith, inside.1)
+nothing_settled lits (has_two l m inside other ne free free') = omega (arith, inside.1)
+
+pub closed_full : (h : Held) (lits : List ℕ) → IsClosed (stored h) lits → Contains (stored h) [] → ⊥
+closed_full h lits cl e = nothing_settled lits (All-contains (IsSettled lits) (stored h) [] cl.each e)
+
+-- where something was decided, no clause is empty
+pub deep_full : (h : Held) (t : Assigned) → IsReady h t → 0 < length t.marks → Contains (stored h) [] → ⊥
+deep_full h t r deep e = closed_full h (take (get_or t.marks 0 0) t.lits) (r.leveled.closed 0 deep) e
+
+-- what was stored stays so
+pub stored_on : (old now : Held) (news : List (List ℕ)) → HasLearnt old now news → (c : List ℕ) → Contains (stored old) c → Contains (stored now) c
+stored_on old now news h c k = subst (λ (s : Held). Contains (stored s) c) (sym h.learns.new_is) (stored_more_all old h.learns.entries c k)

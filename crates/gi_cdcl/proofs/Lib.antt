@@ -14,3 +14,5 @@ mod Ending
 mod Going
 mod Empties
 mod Stepping
+mod Touching
+mod Queues

@@ -1,8 +1,8 @@
 -- Going back over the trail from a conflict: marked places are those of the clause that was resolved so far.
-use Rattle.std.proofs.Common.{◌≡◌, ◌≢◌, ℕ, ◌+◌, ◌-◌, ◌/◌, ◌<◌, ◌≤◌, Bool, true, false, Some, None, List, length, take, get_or, replicate, refl, sym, ap, ◌∙◌, subst, arith, ◌⊎◌, inl, inr}
+use Rattle.std.proofs.Common.{◌≡◌, ◌≢◌, ℕ, ◌+◌, ◌-◌, ◌/◌, ◌<◌, ◌≤◌, Bool, true, false, Some, None, List, length, take, get_or, refl, sym, ap, ◌∙◌, subst, arith, ◌⊎◌, inl, inr}
 use Rattle.std.specs.List.{Contains}
 use Rattle.std.proofs.lemmas.Bool.{cases_lt, cases_eq, false≢true}
-use Rattle.std.proofs.lemmas.List.{get_or_default, length-replicate, get_or-replicate}
+use Rattle.std.proofs.lemmas.List.{get_or_default}
 use Rattle.std.proofs.lemmas.List.Elements.{Contains-append_left, Contains-append_right, Contains-append_cases, All-contains}
 use Rattle.gi_lit.specs.Literals.{opposite}
 use Rattle.gi_lit.specs.Closure.{Forces, IsFalsified, IsSettled}
@@ -14,12 +14,13 @@ use Rattle.gi_prop.specs.Assigned.{Assigned, StandsAt, IsTrail}
 use Rattle.gi_cdcl.specs.Uip.{resolvent, HasHigh, IsResolved}
 use Rattle.gi_cdcl.specs.Uip.IsResolved.{begins, passes, resolves}
 use Rattle.gi_cdcl.specs.Marks.{marked, IsMarked, Marks, IsCut}
+use Rattle.gi_cdcl.specs.Touched.{IsBlank}
 use Rattle.gi_cdcl.proofs.Lists.{place_in_take, Contains-take, front_contains, without_keeps, without_has}
 use Rattle.gi_cdcl.proofs.Marking.{IsSeen}
-use Rattle.gi_cdcl.proofs.Counts.{marked-le, marked-more, marked-replicate, marked_gap, marked_some}
+use Rattle.gi_cdcl.proofs.Counts.{marked-le, marked-more, marked_blank, marked_gap, marked_some}
 
 pub record Resolving (h : Held) (t : Assigned) (conflict : List ℕ) (start at : ℕ) (seen : List Bool) (left : ℕ) : Type 0 where
-  pub len : length seen ≡ length t.lits
+  pub len : length t.lits ≤ length seen
   pub at_le : at ≤ length t.lits
   pub low : start ≤ at
   pub count : left + marked start seen ≡ marked at seen
@@ -51,9 +52,9 @@ module _ (h : Held) (t : Assigned) (tr : IsTrail t) (conflict : List ℕ) (start
       let e : f.place ≡ k = tr.apart f.place k f.below s.below (g.names ∙ sym s.names) in
       sym (ap opposite (sym (ap (λ n. get_or t.lits n 0) e) ∙ f.is) ∙ opposite-opposite m)
 
-  module _ (f : IsFalsified t.lits conflict) (seen : List Bool) (more : ℕ) (m : Marks t.lits conflict start (length t.lits) (replicate (length t.lits) false) seen more) (within : start ≤ length t.lits) where
+  module _ (f : IsFalsified t.lits conflict) (old seen : List Bool) (blank : IsBlank old) (room : length t.lits ≤ length old) (more : ℕ) (m : Marks t.lits conflict start (length t.lits) old seen more) (within : start ≤ length t.lits) where
     counted : marked (length t.lits) seen ≡ marked start seen + more
-    counted = let a = marked-replicate (length t.lits) (length t.lits) in let b = marked-replicate start (length t.lits) in omega (arith, m.count, a, b)
+    counted = let a = marked_blank old blank (length t.lits) in let b = marked_blank old blank start in omega (arith, m.count, a, b)
 
     all_false : (l : ℕ) → Contains conflict l → FalseAt t.lits (length t.lits) l
     all_false l c = let q = All-contains (λ m. Contains t.lits (opposite m)) conflict l f c in record { place = q.0; before = q.1; below = q.1; is = get_or_default t.lits q.0 0 (opposite l) q.1 ∙ q.2 }
@@ -70,12 +71,9 @@ module _ (h : Held) (t : Assigned) (tr : IsTrail t) (conflict : List ℕ) (start
 
     from_mark : (l : ℕ) → IsMarked t.lits seen (length t.lits) l → Contains conflict l
     from_mark l k = elim (m.only k.place k.flag) [
-      | inl old ↦ absurd (false≢true (sym (blank) ∙ old))
+      | inl was ↦ absurd (false≢true (sym (blank k.place) ∙ was))
       | inr new ↦ subst (Contains conflict) (same_literal (length t.lits) k.place new.1.lit (all_false new.1.lit new.1.stands) new.1.at ∙ sym k.is) new.1.stands
     ]
-      where
-        blank : get_or (replicate (length t.lits) false) k.place false ≡ false
-        blank = get_or-replicate (length t.lits) k.place false false k.before
 
     some_high : IsSettled (take start t.lits) conflict → 1 ≤ more
     some_high s = elim (cases_lt 0 more) [ inl lt ↦ lt | inr le ↦ absurd (go le s) ]
@@ -94,7 +92,7 @@ module _ (h : Held) (t : Assigned) (tr : IsTrail t) (conflict : List ℕ) (start
 
     pub Resolving-init : IsSettled (take start t.lits) conflict → Resolving h t conflict start (length t.lits) seen more
     Resolving-init s = record {
-      len = m.len ∙ length-replicate (length t.lits) false;
+      len = let n = m.len in omega (arith, room, n);
       at_le = omega arith;
       low = within;
       count = omega (arith, counted);
@@ -202,7 +200,7 @@ module _ (h : Held) (t : Assigned) (tr : IsTrail t) (conflict : List ℕ) (start
 
         pub Resolving-step : left ≢ 1 → Resolving h t conflict start a new ((left - 1) + more)
         Resolving-step ne = record {
-          len = m.len ∙ r.len;
+          len = let n = m.len in let z = r.len in omega (arith, n, z);
           at_le = let z = r.at_le in omega arith;
           low = omega arith;
           count = let z = r.positive in omega (arith, m.count, r.count, one_more);

@@ -1,8 +1,10 @@
 -- What is true of the clauses that a store has.
-use Rattle.std.proofs.Common.{◌≡◌, ℕ, ◌+◌, ◌*◌, ◌/◌, ◌≤◌, List, ◌++◌, map, sym, subst, arith, inl, inr}
+use Rattle.std.proofs.Common.{ℕ, ◌/◌, ◌≤◌, List, [], ◌++◌, sym, subst, arith, inl, inr}
 use Rattle.std.specs.List.{All, Contains}
-use Rattle.std.proofs.lemmas.List.Elements.{All-append, All-map, All-push, All-contains, Contains-append_right}
-use Rattle.gi_lit.specs.Problem.{Pair, IsPlain, IsWellFormed, full, guarded}
+use Rattle.std.proofs.lemmas.List.Elements.{All-append, All-weaker, All-contains, Contains-append_right}
+use Rattle.gi_lit.specs.Problem.{IsWellFormed, full}
+use Rattle.gi_lit.specs.Guards.{IsGuardedLit}
+use Rattle.gi_lit.proofs.Resting.{rests, problem_or_guard}
 use Rattle.gi_lit.proofs.Vars.{var_facts}
 use Rattle.gi_store.specs.Held.{Held, Holds, IsWithin, problem_of, known_of}
 use Rattle.gi_store.specs.Whole.{IsWhole}
@@ -11,18 +13,9 @@ use Rattle.gi_cdcl.proofs.Uip.{holds_stored}
 use Rattle.gi_cdcl.proofs.Teaching.{stored_is}
 
 module _ (h : Held) (w : IsWellFormed (problem_of h)) where
-  plain_used : (c : List ℕ) → IsPlain (problem_of h) c → All (IsUsed h) c
-  plain_used c p = λ k d lt. inl (p k d lt)
-
-  pair_used : (q : Pair) → IsPlain (problem_of h) q.clause → Contains h.active q.guard → All (IsUsed h) (guarded q)
-  pair_used q p a = All-push (IsUsed h) q.clause (2 * q.guard + 1) (plain_used q.clause p) (inr (let e : (2 * q.guard + 1) / 2 ≡ q.guard = omega arith in rw e a))
-
   -- the full clauses are of problem variables and active guards
   pub full_used : All (All (IsUsed h)) (full (problem_of h))
-  unfolding full
-  full_used = All-append (All (IsUsed h)) (problem_of h).plain (map guarded (problem_of h).pairs)
-      (λ k d lt. plain_used _ (w.plain k d lt))
-      (All-map (All (IsUsed h)) guarded (problem_of h).pairs (λ k d lt. pair_used _ (w.pairs k d lt) (w.guards k d lt)))
+  full_used = All-weaker (All (IsGuardedLit (problem_of h))) (All (IsUsed h)) (λ c a. All-weaker (IsGuardedLit (problem_of h)) (IsUsed h) (problem_or_guard (problem_of h)) c a) (full (problem_of h)) (rests (problem_of h) [] w).lits
 
   pub used_within : (l : ℕ) → IsUsed h l → (1 ≤ l / 2) × (l / 2 ≤ h.vars)
   used_within l (inl v) = let f = var_facts (problem_of h) (l / 2) v in (f.low, f.high)

@@ -18,7 +18,7 @@ use Rattle.gi_cdcl.proofs.Uip.{IsOneHigh}
 pub entries_learnt : (key : ℕ) (c : List ℕ) (h : Held) → entries (with_learnt key c h) ≡ entries h ++ record { key = key; lits = c } ∷ []
 entries_learnt key c h =
     let e : List Entry = record { key = key; lits = c } ∷ [] in
-    sym (append_assoc h.plain (map full_entry h.pairs ++ h.learnt) e ∙ ap (λ xs. h.plain ++ xs) (append_assoc (map full_entry h.pairs) h.learnt e))
+    sym (append_assoc h.plain (map full_entry h.groups ++ h.learnt) e ∙ ap (λ xs. h.plain ++ xs) (append_assoc (map full_entry h.groups) h.learnt e))
 
 -- a learnt clause stands behind the others
 pub stored_learnt : (key : ℕ) (c : List ℕ) (h : Held) → stored (with_learnt key c h) ≡ stored h ++ c ∷ []
@@ -29,8 +29,13 @@ holds_more key c h k d held = subst (λ xs. Contains xs (record { key = k; lits 
 
 pub holds_more_all : (h : Held) (es : List Entry) (k : ℕ) (d : List ℕ) → Holds h k d → Holds (record h { learnt = h.learnt ++ es }) k d
 holds_more_all h es k d held =
-    subst (λ xs. Contains xs (record { key = k; lits = d })) (append_assoc h.plain (map full_entry h.pairs ++ h.learnt) es ∙ ap (λ xs. h.plain ++ xs) (append_assoc (map full_entry h.pairs) h.learnt es))
+    subst (λ xs. Contains xs (record { key = k; lits = d })) (append_assoc h.plain (map full_entry h.groups ++ h.learnt) es ∙ ap (λ xs. h.plain ++ xs) (append_assoc (map full_entry h.groups) h.learnt es))
     (Contains-append_left (entries h) es _ held)
+
+pub stored_more_all : (h : Held) (es : List Entry) (c : List ℕ) → Contains (stored h) c → Contains (stored (record h { learnt = h.learnt ++ es })) c
+stored_more_all h es c k =
+    subst (λ (xs : List Entry). Contains (map (λ (e : Entry). e.lits) xs) c) (append_assoc h.plain (map full_entry h.groups ++ h.learnt) es ∙ ap (λ xs. h.plain ++ xs) (append_assoc (map full_entry h.groups) h.learnt es))
+    (subst (λ (cs : List (List ℕ)). Contains cs c) (sym (map-append (λ (e : Entry). e.lits) (entries h) es)) (Contains-append_left (stored h) (map (λ (e : Entry). e.lits) es) c k))
 
 pub holds_learnt : (key : ℕ) (c : List ℕ) (h : Held) → Holds (with_learnt key c h) key c
 holds_learnt key c h = subst (λ xs. Contains xs (record { key = key; lits = c })) (sym (entries_learnt key c h)) (Contains-push (entries h) _)

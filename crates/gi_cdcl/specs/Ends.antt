@@ -1,36 +1,19 @@
 -- How a slice may end.
-use Rattle.std.specs.Prelude.{◌≡◌, ℕ, ◌-◌, ◌<◌, ◌≤◌, List, [], ◌∷◌, ◌++◌, length, map, slice_index, slice_index_or, Bool, ◌⊎◌}
-use Rattle.gi_lit.specs.Lists.{IsSublist}
-use Rattle.gi_lit.specs.Truth.{Satisfies, MakesTrue, Fail}
-use Rattle.gi_lit.specs.Closure.{IsFalsified, Conflicts}
-use Rattle.gi_lit.specs.Problem.{Problem, force, full}
+use Rattle.std.specs.Prelude.{◌≡◌, ℕ, ◌-◌, ◌<◌, ◌≤◌, List, [], ◌∷◌, ◌++◌, length, map, slice_index, ◌⊎◌}
+use Rattle.gi_lit.specs.Closure.{IsFalsified}
+use Rattle.gi_lit.specs.Ends.{EndsNonempty, IsModel, IsFailing}
+use Rattle.gi_lit.specs.Problem.{Problem}
 use Rattle.gi_lit.specs.Learnt.{AreFresh}
 use Rattle.gi_store.specs.Held.{Entry, Held, Holds, problem_of, known_of, with_learnt}
 use Rattle.gi_prop.specs.Assigned.{Assigned, IsTrail}
-use Rattle.gi_cdcl.specs.Sound.{IsSound}
+use Rattle.gi_cdcl.specs.Sound.{IsSound, IsLeveled}
 use Rattle.gi_cdcl.specs.Uip.{IsUip}
 use Rattle.gi_cdcl.specs.declared.slice.Slice.{Slice}
 use Rattle.gi_cdcl.specs.declared.slice.Slice.TheVariants.{Learned, Sat, Unsat, Braked, NoMemory}
 
--- there is a last clause, and it isn't empty
-abbrev pub EndsNonempty : List (List ℕ) → Type 0
-EndsNonempty news = (0 < length news) × (0 < length (slice_index_or news (length news - 1) []))
-
 -- as many as were allowed, and the last isn't empty
 abbrev pub IsFull : ℕ → List (List ℕ) → Type 0
 IsFull limit news = (length news ≡ limit) × EndsNonempty news
-
--- the values satisfy the clauses in force and the assumptions
-pub record IsModel (p : Problem) (assumed : List ℕ) (values : List Bool) : Type 0 where
-  pub count : length values ≡ p.vars
-  pub clauses : Satisfies values (force p assumed)
-  pub lits : MakesTrue values assumed
-
--- some of the assumptions fail with the clauses in force under them, and unit closure over all that is known finds it
-pub record IsFailing (p : Problem) (assumed : List ℕ) (known : List (List ℕ)) (w : List ℕ) : Type 0 where
-  pub some : IsSublist w assumed
-  pub fails : Fail (force p w) w
-  pub derived : Conflicts (full p ++ known) w
 
 -- how a slice may end: braked exactly where the greatest mark reaches the serial, else with as many clauses as were allowed, else with a verdict
 abbrev pub EndsSlice : Problem → List (List ℕ) → List ℕ → ℕ → ℕ → ℕ → List (List ℕ) → Slice → Type 0
@@ -40,12 +23,13 @@ EndsSlice p known assumed limit serial mark news (Sat values) = (mark < serial) 
 EndsSlice p known assumed limit serial mark news (Unsat w) = (mark < serial) × ¬ IsFull limit news × IsFailing p assumed (known ++ news) w
 EndsSlice p known assumed limit serial mark news NoMemory = Unit {0}
 
--- the clause that a conflict on some trail over the stored clauses teaches: its first unique implication point, or the empty clause where nothing
--- was decided
+-- the clause that a conflict teaches on a trail over the stored clauses on which nothing was left to propagate when each level began: its first unique
+-- implication point, or the empty clause where nothing was decided
 pub record IsTaught (h : Held) (clause : List ℕ) : Type 0 where
   pub trail : Assigned
   pub is_trail : IsTrail trail
   pub sound : IsSound h trail
+  pub leveled : IsLeveled h trail
   pub key : ℕ
   pub conflict : List ℕ
   pub holds : Holds h key conflict

@@ -1,7 +1,8 @@
 -- How a slice ends, in words of the store at its end.
 use Rattle.std.specs.Prelude.{ℕ, ◌<◌, ◌≤◌, List}
 use Rattle.gi_store.specs.Held.{Held, problem_of, known_of}
-use Rattle.gi_cdcl.specs.Ends.{IsFull, IsModel, IsFailing}
+use Rattle.gi_lit.specs.Ends.{IsModel, IsFailing}
+use Rattle.gi_cdcl.specs.Ends.{IsFull}
 use Rattle.gi_cdcl.specs.declared.slice.Slice.{Slice}
 use Rattle.gi_cdcl.specs.declared.slice.Slice.TheVariants.{Learned, Sat, Unsat, Braked, NoMemory}
 

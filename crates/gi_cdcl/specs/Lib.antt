@@ -9,3 +9,6 @@ pub mod Assumed
 pub mod Going
 pub mod Steps
 pub mod Finish
+pub mod Queue
+pub mod Touched
+pub mod Braking

@@ -35,7 +35,7 @@ pub record Marks (lits clause : List ℕ) (start end : ℕ) (old new : List Bool
 
 -- the clause that was resolved has its literals at marked places, of which one is of the last level, at `top`
 pub record IsCut (h : Held) (t : Assigned) (conflict : List ℕ) (start : ℕ) (seen : List Bool) (top : ℕ) : Type 0 where
-  pub len : length seen ≡ length t.lits
+  pub len : length t.lits ≤ length seen
   pub low : start ≤ top
   pub high : top < length t.lits
   pub flag : slice_index_or seen top false ≡ true
@@ -55,6 +55,30 @@ pub record IsBuilt (lits : List ℕ) (seen : List Bool) (top n : ℕ) (clause : 
   pub all : (k : ℕ) → k < n → slice_index_or seen k false ≡ true → Contains clause (opposite (slice_index lits k))
   pub only : (m : ℕ) → Contains clause m → (m ≡ opposite (slice_index lits top)) ⊎ IsMarked lits seen n m
   pub last_is : IsLast seen n last
+
+-- the greater of a place that may be missing and another
+abbrev pub IsLastOf : Option ℕ → ℕ → ℕ → Type 0
+IsLastOf None place n = n ≡ place
+IsLastOf (Some p) place n = (p ≤ n) × (place ≤ n) × ((n ≡ p) ⊎ (n ≡ place))
+
+-- no place before n, or the last one, among these
+abbrev pub IsLastIn : List ℕ → ℕ → Option ℕ → Type 0
+IsLastIn touched n None = (k : ℕ) → Contains touched k → n ≤ k
+IsLastIn touched n (Some p) = (p < n) × Contains touched p × ((k : ℕ) → Contains touched k → k < n → k ≤ p)
+
+-- one of these places, before n, makes the literal false
+pub record IsAmong (lits touched : List ℕ) (n m : ℕ) : Type 0 where
+  pub place : ℕ
+  pub inside : Contains touched place
+  pub before : place < n
+  pub is : m ≡ opposite (slice_index lits place)
+
+-- the clause of the literal at `top` and of those at these places before n, with the last of these
+pub record IsBuiltOf (lits touched : List ℕ) (top n : ℕ) (clause : List ℕ) (last : Option ℕ) : Type 0 where
+  pub stands : Contains clause (opposite (slice_index lits top))
+  pub all : (k : ℕ) → Contains touched k → k < n → Contains clause (opposite (slice_index lits k))
+  pub only : (m : ℕ) → Contains clause m → (m ≡ opposite (slice_index lits top)) ⊎ IsAmong lits touched n m
+  pub last_is : IsLastIn touched n last
 
 -- the clause of the key is false
 pub record HasFalse (h : Held) (lits : List ℕ) (key : ℕ) : Type 0 where

@@ -3,18 +3,27 @@ use Rattle.std.specs.Prelude.{◌≡◌, ℕ, ◌+◌, ◌<◌, ◌≤◌, List,
 use Rattle.gi_store.specs.Held.{Held, problem_of, known_of}
 use Rattle.gi_prop.specs.Assigned.{Assigned}
 use Rattle.gi_prop.specs.Attached.{Attached}
-use Rattle.gi_cdcl.specs.Ends.{EndsNonempty, IsModel, IsFailing}
+use Rattle.gi_lit.specs.Ends.{EndsNonempty, IsModel, IsFailing}
+use Rattle.gi_cdcl.specs.Ends.{IsFull}
 use Rattle.gi_cdcl.specs.Going.{IsTied, IsGoing}
 use Rattle.gi_cdcl.specs.declared.step.Step.{Step}
 use Rattle.gi_cdcl.specs.declared.step.Step.TheVariants.{Decided, Learnt, Refuted, Sat, Failed}
 
--- how the news grow: a step learns one clause or none, and the empty one where it refutes
+-- how the news grow: a step learns one clause or none, and where it refutes they aren't as many as were allowed, since none but the empty one is new
 abbrev pub AddsNews : List (List ℕ) → List (List ℕ) → Step → Type 0
 AddsNews old new Decided = new ≡ old
 AddsNews old new Learnt = (length new ≡ length old + 1) × EndsNonempty new
-AddsNews old new Refuted = (length new ≡ length old + 1) × ¬ EndsNonempty new
+AddsNews old new Refuted = (length new ≤ length old + 1) × ((limit : ℕ) → length old < limit → ¬ IsFull limit new)
 AddsNews old new (Sat values) = new ≡ old
 AddsNews old new (Failed w) = new ≡ old
+
+-- a stored clause that is empty is found at once: the step refutes, and learns nothing
+abbrev pub FindsEmpty : List (List ℕ) → List (List ℕ) → Step → Type 0
+FindsEmpty old new Decided = ⊥
+FindsEmpty old new Learnt = ⊥
+FindsEmpty old new Refuted = new ≡ old
+FindsEmpty old new (Sat values) = ⊥
+FindsEmpty old new (Failed w) = ⊥
 
 -- the search goes on with a literal more or a clause more, or it has a verdict
 abbrev pub LeadsTo : Assigned → Attached → Held → Assigned → List ℕ → ℕ → ℕ → Step → Type 0

@@ -1,4 +1,4 @@
-ghost use Rattle.std.specs.Prelude.{◌≡◌, ℕ, ◌/◌, ◌<◌, ◌≤◌, List, length, take, All, Contains, IfOk, IsTrue, slice_index, slice_index_or, false, replicate};
+ghost use Rattle.std.specs.Prelude.{◌≡◌, ℕ, ◌/◌, ◌<◌, ◌≤◌, List, length, take, All, Contains, IfOk, IsTrue, slice_index, slice_index_or, false};
 ghost use Rattle.gi_lit.specs.Literals.{opposite};
 ghost use Rattle.gi_lit.specs.Lists.{IsSublist};
 ghost use Rattle.gi_lit.specs.Closure.{Conflicts};
@@ -6,8 +6,10 @@ ghost use Rattle.gi_store.specs.Held.{IsWithin};
 ghost use Rattle.gi_prop.specs.Assigned.{IsTrail};
 ghost use Rattle.gi_cdcl.specs.Sound.{stored, IsSound};
 ghost use Rattle.gi_cdcl.specs.Assumed.{IsNext, IsLed, LeadsFrom};
+ghost use Rattle.gi_cdcl.specs.Touched.{IsBlank};
 
-use crate::learn::{mark, reason_at};
+use crate::analyze::{mark_seen, reason_at};
+use crate::seen::Seen;
 use gi_lit::{Lit, Lits};
 use gi_prop::Trail;
 use gi_store::Store;
@@ -42,33 +44,34 @@ pub(crate) fn next_assumption(trail: &Trail, assumed: &[Lit], passed: &mut usize
 }
 
 /// Marks what a literal that is false goes back to.
-fn trace(store: &Store, trail: &Trail, failed: Lit, seen: &mut [bool])
+fn trace(store: &Store, trail: &Trail, failed: Lit, seen: &mut Seen)
     requires within { All (IsWithin trail.now.vars) (stored store.now) }
     requires sound { IsSound store.now trail.now }
     requires var { failed / 2 ≤ trail.now.vars }
     requires failed { Contains trail.now.lits (opposite failed) }
-    requires fresh { seen.old ≡ replicate (length trail.now.lits) false }
-    ensures len { length seen.new ≡ length trail.now.lits }
+    requires blank { IsBlank seen.old }
+    requires room { length trail.now.lits ≤ length seen.old }
+    ensures len { length trail.now.lits ≤ length seen.new }
     ensures leads { LeadsFrom store.now trail.now failed seen.new 0 }
 {
     let mut at = trail.lits().len();
     if let Some(place) = trail.place_of(failed.var()) {
-        seen[place] = true;
+        seen.set(place);
     }
     while at > 0 {
         at -= 1;
-        if seen[at] {
+        if seen.has(at) {
             if let Some(reason) = reason_at(trail, at) {
-                let _more = mark(store.clause(reason), trail, seen, 0, at);
+                let _more = mark_seen(store.clause(reason), trail, seen, 0, at);
             }
         }
     }
 }
 
 /// Whether a literal failed, or its variable's place is marked.
-fn is_wanted(trail: &Trail, seen: &[bool], l: Lit, failed: Lit) -> bool
+fn is_wanted(trail: &Trail, seen: &Seen, l: Lit, failed: Lit) -> bool
     requires within { l / 2 ≤ trail.now.vars }
-    requires len { length seen.now ≡ length trail.now.lits }
+    requires len { length trail.now.lits ≤ length seen.now }
     requires trail { IsTrail trail.now }
     ensures failed { l ≡ failed → IsTrue result }
     ensures marked { (k : ℕ) → k < length trail.now.lits → slice_index trail.now.lits k ≡ l → IsTrue (slice_index_or seen.now k false) → IsTrue result }
@@ -77,7 +80,7 @@ fn is_wanted(trail: &Trail, seen: &[bool], l: Lit, failed: Lit) -> bool
         return true;
     }
     match trail.place_of(l.var()) {
-        Some(place) => seen[place],
+        Some(place) => seen.has(place),
         None => false,
     }
 }
@@ -88,10 +91,10 @@ fn failing(
     trail: &Trail,
     assumed: &[Lit],
     failed: Lit,
-    seen: &[bool],
+    seen: &Seen,
 ) -> Result<Lits, AllocError>
     requires within { IsWithin trail.now.vars assumed.now }
-    requires len { length seen.now ≡ length trail.now.lits }
+    requires len { length trail.now.lits ≤ length seen.now }
     requires trail { IsTrail trail.now }
     ensures sublist { IfOk result (λ w. IsSublist w assumed.now) }
     ensures failed { IfOk result (λ w. Contains assumed.now failed → Contains w failed) }
@@ -108,10 +111,11 @@ fn failing(
 }
 
 /// The assumptions under which the clauses conflict, where one is false.
-pub(crate) fn explain(
+pub(crate) fn analyze_final(
     alloc: Global,
     store: &Store,
     trail: &Trail,
+    seen: &mut Seen,
     assumed: &[Lit],
     failed: Lit,
 ) -> Result<Lits, AllocError>
@@ -124,8 +128,8 @@ pub(crate) fn explain(
     ensures sublist { IfOk result (λ w. IsSublist w assumed.now) }
     ensures conflicts { IfOk result (λ w. Conflicts (stored store.now) w) }
 {
-    let mut seen = vec![in alloc; false; trail.lits().len()]?;
-    trace(store, trail, failed, &mut seen);
-    let found = failing(alloc, trail, assumed, failed, &seen)?;
+    seen.start_over(trail.lits().len())?;
+    trace(store, trail, failed, seen);
+    let found = failing(alloc, trail, assumed, failed, seen)?;
     Ok(found)
 }

@@ -1,5 +1,5 @@
 ghost use Rattle.std.specs.Prelude.{◌≡◌, ℕ, ◌+◌, ◌*◌, ◌/◌, ◌<◌, ◌≤◌, ◌⊎◌, length, Contains, IfOk, IfSome, IfNone, OnOk, None, slice_index};
-ghost use Rattle.gi_lit.specs.Literals.{opposite};
+ghost use Rattle.gi_lit.specs.Literals.{max_var, opposite};
 ghost use Rattle.gi_store.specs.Held.{Held};
 ghost use Rattle.gi_prop.specs.Assigned.{HasValue, IsTrail, with_lit, with_level};
 ghost use Rattle.gi_prop.specs.Attached.{Attached, Goes};
@@ -14,7 +14,7 @@ use std::alloc::{AllocError, Global};
 
 /// The variable behind `i` others.
 fn variable(i: u32) -> Var
-    requires { i < 1048576 }
+    requires { i < max_var }
     ensures { result ≡ i + 1 }
 {
     match Var::new(i + 1) {
@@ -51,14 +51,15 @@ fn first_free(store: &Store, trail: &Trail, order: &mut Order) -> Option<Lit>
     ensures { IfSome result (λ l. (l / 2 ≤ trail.now.vars) × HasValue trail.now.lits l None) }
 {
     let vars = trail.vars();
-    for _entry in 0..order.len() {
-        let v = order.take()?;
+    for _i in 0..order.len() {
+        let v = order.next()?;
         if v.index() as usize <= vars {
             let free = candidate(store, trail, v, order.phase(v));
             if free.is_some() {
                 return free;
             }
         }
+        order.pass();
     }
     None
 }
@@ -122,7 +123,7 @@ pub(crate) fn decide(trail: &mut Trail, l: Lit) -> Result<(), AllocError>
 /// Whether the variable at a place is true.
 fn is_true(trail: &Trail, place: u32) -> bool
     requires within { place < trail.now.vars }
-    requires small { place < 1048576 }
+    requires small { place < max_var }
     requires trail { IsTrail trail.now }
     ensures { IsValueOf trail.now.lits place result }
 {
@@ -136,11 +137,11 @@ fn is_true(trail: &Trail, place: u32) -> bool
 /// The values that make the trail's literals true, of variables 1 to n.
 pub(crate) fn assignment(alloc: Global, trail: &Trail, n: u32) -> Result<Assign, AllocError>
     requires vars { n ≤ trail.now.vars }
-    requires small { n ≤ 1048576 }
+    requires small { n ≤ max_var }
     requires trail { IsTrail trail.now }
     ensures { IfOk result (λ values. IsAssignment n trail.now.lits values) }
 {
-    let mut values = Vec::new(alloc);
+    let mut values = Vec::with_capacity(alloc, n as usize)?;
     for place in 0..n {
         values.push(is_true(trail, place))?;
     }
@@ -155,7 +156,7 @@ pub(crate) fn give_back(order: &mut Order, trail: &Trail, start: usize) -> u32
     let lits = trail.lits();
     for place in start..lits.len() {
         let l = lits[place];
-        order.give_back(l);
+        order.unassign(l);
         least = least.min(l.var().index());
     }
     least

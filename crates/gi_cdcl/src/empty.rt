@@ -1,5 +1,6 @@
-ghost use Rattle.std.specs.Prelude.{◌≡◌, ◌+◌, ◌<◌, ℕ, [], length, All, Contains, IsTrue, IsFalse, slice_index_or};
-ghost use Rattle.gi_store.specs.Held.{known_of};
+ghost use Rattle.std.specs.Prelude.{◌<◌, [], length, All, Contains, IsTrue, IsFalse};
+ghost use Rattle.gi_lit.specs.Problem.{full};
+ghost use Rattle.gi_store.specs.Held.{problem_of, known_of};
 ghost use Rattle.gi_cdcl.specs.Sound.{stored};
 
 use gi_store::Store;
@@ -7,7 +8,7 @@ use gi_store::Store;
 /// Whether a clause of the problem is empty.
 fn has_empty_in_problem(store: &Store) -> bool
     ensures yes { IsTrue result → Contains (stored store.now) [] }
-    ensures no { IsFalse result → (j : ℕ) → j < length store.now.plain + length store.now.pairs → 0 < length (slice_index_or (stored store.now) j []) }
+    ensures no { IsFalse result → All (λ c. 0 < length c) (full (problem_of store.now)) }
 {
     for i in 0..store.problem() {
         match store.key_at(i + 1) {

@@ -1,4 +1,5 @@
 use crate::order::Order;
+use crate::seen::Seen;
 use gi_lit::Clause;
 use gi_prop::{Prop, Trail};
 use std::alloc::Global;
@@ -11,6 +12,8 @@ pub(crate) struct Engine {
     pub prop: Prop,
     /// In which order variables are decided.
     pub order: Order,
+    /// Which places of the trail the present conflict met.
+    pub seen: Seen,
     /// So many variables have a value, as far as they are in use.
     pub vars_passed: u32,
     /// So many assumptions are true.

@@ -1,172 +1,145 @@
-ghost use Rattle.std.specs.Prelude.{◌≡◌, ℕ, ◌-◌, ◌/◌, ◌<◌, ◌≤◌, List, length, All, Contains, IfOk, slice_index, slice_index_or, false, replicate, None};
-ghost use Rattle.gi_lit.specs.Literals.{opposite};
-ghost use Rattle.gi_lit.specs.Closure.{IsFalsified};
-ghost use Rattle.gi_store.specs.Held.{Holds, IsWithin, IsLive};
-ghost use Rattle.gi_prop.specs.Assigned.{IsLevelAt, IsTrail};
-ghost use Rattle.gi_cdcl.specs.Sound.{stored, IsSound, IsLeveled};
-ghost use Rattle.gi_cdcl.specs.Uip.{IsUip, IsJump};
-ghost use Rattle.gi_cdcl.specs.Marks.{Marks, IsCut, IsBuilt, HasFalse};
+ghost use Rattle.std.specs.Prelude.{◌≡◌, ◌+◌, ◌-◌, ◌<◌, ◌≤◌, ℕ, List, [], ◌∷◌, ◌++◌, length, Contains, IfOk, OnOk};
+ghost use Rattle.gi_lit.specs.Learnt.{IsFresh, IsDerived};
+ghost use Rattle.gi_store.specs.Held.{Held, IsWithin, problem_of, known_of};
+ghost use Rattle.gi_cdcl.specs.Marks.{HasFalse};
+ghost use Rattle.gi_cdcl.specs.Values.{IsPassed};
+ghost use Rattle.gi_cdcl.specs.Assumed.{IsLed};
+ghost use Rattle.gi_lit.specs.Ends.{IsFailing};
+ghost use Rattle.gi_cdcl.specs.Ends.{IsTaught};
+ghost use Rattle.gi_cdcl.specs.Searching.{AreKnown};
+ghost use Rattle.gi_cdcl.specs.Going.{IsTied, IsReady, IsGoing, HasLearnt, HasStored};
+ghost use Rattle.gi_cdcl.specs.Sound.{stored};
+ghost use Rattle.gi_cdcl.specs.Steps.{AddsNews, FindsEmpty, LeadsTo};
+ghost use Rattle.gi_cdcl.specs.declared.step.Step.TheVariants.{Learnt};
 
-use gi_lit::{Lit, Lits};
-use gi_prop::Trail;
+use crate::analyze::analyze;
+use crate::decide::give_back;
+use crate::empty::has_empty;
+use crate::engine::Engine;
+use crate::step::Step;
+use gi_lit::{Clause, Lits};
+use gi_prop::{Prop, Trail};
 use gi_store::{Key, Store};
-use std::alloc::{AllocError, Global};
+use std::alloc::AllocError;
 
-/// The key of the clause that forced the literal at a place, none for a decision.
-pub(crate) fn reason_at(trail: &Trail, place: usize) -> Option<Key>
-    requires { place < length trail.now.lits }
-    ensures { result ≡ slice_index_or trail.now.reasons place None }
-{
-    let l = trail.lits()[place];
-    trail.reason(l.var())
-}
-
-/// The literal at a place.
-fn lit_at(lits: &[Lit], place: usize) -> Lit
-    requires { place < length lits.now }
-    ensures { result ≡ slice_index lits.now place }
-{
-    lits[place]
-}
-
-/// The level of a place.
-fn level_at(trail: &Trail, place: usize) -> u32
-    requires { place < length trail.now.lits }
-    ensures { IsLevelAt trail.now.marks place result }
-{
-    let l = lit_at(trail.lits(), place);
-    match trail.level_of(l.var()) {
-        Some(level) => level,
-        None => unreachable!(),
-    }
-}
-
-/// Marks the places of the clause's variables before `end`, and counts the new marks from `start` on.
-pub(crate) fn mark(
-    clause: &[Lit],
+/// Stores a clause that a conflict teaches, as the last of the news, and attaches it. After an error it may stand in the store all the same, and
+/// then it is the last of the news.
+fn add_clause(
+    prop: &mut Prop,
     trail: &Trail,
-    seen: &mut [bool],
-    start: usize,
-    end: usize,
-) -> usize
-    requires within { IsWithin trail.now.vars clause.now }
-    requires trail { IsTrail trail.now }
-    requires len { length seen.old ≡ length trail.now.lits }
-    requires order { start ≤ end }
-    ensures { Marks trail.now.lits clause.now start end seen.old seen.new result }
+    store: &mut Store,
+    clause: Clause,
+    news: &mut Vec<Clause>,
+) -> Result<(), AllocError>
+    requires within { IsWithin store.old.vars clause }
+    requires tied { IsTied prop.old store.old trail.now }
+    requires taught { IsTaught store.old clause }
+    requires fresh { IsFresh (problem_of store.old) (known_of store.old) clause × IsDerived (problem_of store.old) (known_of store.old) clause }
+    ensures learnt { (s : Held) → HasLearnt s store.old news.old.items → HasLearnt s store.new news.new.items }
+    ensures few { length news.new.items ≤ length news.old.items + 1 }
+    ensures stored { OnOk result (HasStored store.old store.new clause) }
+    ensures news { OnOk result (news.new.items ≡ news.old.items ++ clause ∷ []) }
+    ensures tied { OnOk result (IsTied prop.new store.new trail.now) }
 {
-    let mut more = 0;
-    for l in clause {
-        if let Some(at) = trail.place_of(l.var()) {
-            if at < end && !seen[at] {
-                seen[at] = true;
-                if at >= start {
-                    more += 1;
-                }
-            }
-        }
-    }
-    more
+    news.reserve(1)?;
+    let key = store.learn(clause.as_slice())?;
+    news.push_reserved(clause);
+    let _vars = store.vars();
+    prop.attach(store, trail, key)
 }
 
-/// Goes back over the trail from a clause that is false, to its first unique implication point.
-fn resolve(store: &Store, trail: &Trail, conflict: &[Lit], seen: &mut [bool]) -> usize
-    requires within { All (IsWithin trail.now.vars) (stored store.now) }
-    requires sound { IsSound store.now trail.now }
-    requires leveled { IsLeveled store.now trail.now }
-    requires deep { 0 < length trail.now.marks }
-    requires stands { Contains (stored store.now) conflict.now }
-    requires falsified { IsFalsified trail.now.lits conflict.now }
-    requires fresh { seen.old ≡ replicate (length trail.now.lits) false }
-    ensures { IsCut store.now trail.now conflict.now (slice_index trail.now.marks (length trail.now.marks - 1)) seen.new result }
+/// How many of the variables that were passed lie before the least one that lost its value.
+fn still_passed(passed: u32, least: u32) -> u32
+    ensures { (result ≤ passed) × (result ≤ least - 1) }
 {
-    let start = trail.start_of(trail.level() - 1);
-    let mut at = trail.lits().len();
-    let mut open = mark(conflict, trail, seen, start, at);
-    while at > start {
-        at -= 1;
-        if seen[at] {
-            if open == 1 {
-                return at;
-            }
-            open -= 1;
-            match reason_at(trail, at) {
-                Some(reason) => open += mark(store.clause(reason), trail, seen, start, at),
-                None => unreachable!(),
-            }
-        }
-    }
-    unreachable!()
+    passed.min(least.saturating_sub(1))
 }
 
-/// What a conflict teaches: a clause, the level to go back to, and which places of the trail it met.
-#[derive(Drop)]
-pub(crate) struct Learnt {
-    pub clause: Lits,
-    pub level: u32,
-    pub seen: Vec<bool>,
-}
-
-fn negation(lits: &[Lit], place: usize) -> Lit
-    requires { place < length lits.now }
-    ensures { result ≡ opposite (slice_index lits.now place) }
-{
-    lits[place].not()
-}
-
-/// The clause of the literals at marked places, that at `top` first, and the last marked place before `start`.
-fn build(
-    alloc: Global,
-    lits: &[Lit],
-    seen: &[bool],
-    start: usize,
-    top: usize,
-) -> Result<(Lits, Option<usize>), AllocError>
-    requires start { start ≤ top }
-    requires top { top < length lits.now }
-    requires len { length seen.now ≡ length lits.now }
-    ensures { IfOk result (λ r. IsBuilt lits.now seen.now top start r.0 r.1) }
-{
-    let mut clause = Lits::new(alloc);
-    clause.push(negation(lits, top))?;
-    let mut last = None;
-    for k in 0..start {
-        if seen[k] {
-            clause.push(negation(lits, k))?;
-            last = Some(k);
-        }
-    }
-    Ok((clause, last))
-}
-
-/// The clause that a conflict above level 0 teaches: its first unique implication point.
-pub(crate) fn analyze(
-    alloc: Global,
-    store: &Store,
-    trail: &Trail,
+/// Learns what a conflict above level 0 teaches, and goes back to the least level at which all its literals but one are false.
+fn learn(
+    engine: &mut Engine,
+    store: &mut Store,
     conflict: Key,
-) -> Result<Learnt, AllocError>
-    requires within { All (IsWithin trail.now.vars) (stored store.now) }
-    requires sound { IsSound store.now trail.now }
-    requires leveled { IsLeveled store.now trail.now }
-    requires deep { 0 < length trail.now.marks }
-    requires conflict { HasFalse store.now trail.now.lits conflict }
-    requires live { IsLive store.now conflict }
-    ensures uip { IfOk result (λ l. (c : List ℕ) → Holds store.now conflict c → IsUip store.now trail.now c (slice_index trail.now.marks (length trail.now.marks - 1)) l.clause) }
-    ensures jump { IfOk result (λ l. IsJump trail.now l.clause (slice_index trail.now.marks (length trail.now.marks - 1)) l.level) }
+    news: &mut Vec<Clause>,
+) -> Result<(), AllocError>
+    requires known { AreKnown store.old }
+    requires tied { IsTied engine.old.prop store.old engine.old.trail }
+    requires ready { IsReady store.old engine.old.trail }
+    requires deep { 0 < length engine.old.trail.marks }
+    requires conflict { HasFalse store.old engine.old.trail.lits conflict }
+    ensures learnt { (s : Held) → HasLearnt s store.old news.old.items → HasLearnt s store.new news.new.items }
+    ensures few { length news.new.items ≤ length news.old.items + 1 }
+    ensures adds { OnOk result (AddsNews news.old.items news.new.items Learnt) }
+    ensures going { OnOk result ((assumed : List ℕ) → IsLed assumed engine.old.trail → IsWithin store.old.vars assumed → IsPassed store.old engine.old.trail.lits engine.old.vars_passed → IsGoing engine.new.prop store.new engine.new.trail assumed engine.new.vars_passed engine.new.assumed_passed) }
+    ensures vars { OnOk result (engine.new.trail.vars ≡ engine.old.trail.vars) }
 {
-    let mut seen = vec![in alloc; false; trail.lits().len()]?;
-    let falsified = store.clause(conflict);
-    let top = resolve(store, trail, falsified, &mut seen);
-    let start = trail.start_of(trail.level() - 1);
-    let (clause, last) = build(alloc, trail.lits(), &seen, start, top)?;
-    let level = match last {
-        None => 0,
-        Some(place) => level_at(trail, place),
-    };
-    Ok(Learnt {
-        clause,
-        level,
-        seen,
-    })
+    let _vars = store.vars();
+    let _level = engine.trail.level();
+    let learnt = analyze(
+        engine.alloc,
+        store,
+        &engine.trail,
+        &mut engine.seen,
+        conflict,
+    )?;
+    engine.order.bump(learnt.clause.as_slice())?;
+    let start = engine.trail.start_of(learnt.level);
+    let least = give_back(&mut engine.order, &engine.trail, start);
+    engine.trail.cancel_to(learnt.level);
+    engine.vars_passed = still_passed(engine.vars_passed, least);
+    engine.assumed_passed = 0;
+    add_clause(&mut engine.prop, &engine.trail, store, learnt.clause, news)?;
+    Ok(())
+}
+
+/// A conflict where nothing was decided: the clauses fail. The empty clause is learnt, but where a clause is empty already.
+fn refute(
+    engine: &mut Engine,
+    store: &mut Store,
+    news: &mut Vec<Clause>,
+    conflict: Key,
+) -> Result<Step, AllocError>
+    requires known { AreKnown store.old }
+    requires tied { IsTied engine.old.prop store.old engine.old.trail }
+    requires ready { IsReady store.old engine.old.trail }
+    requires root { engine.old.trail.marks ≡ [] }
+    requires conflict { HasFalse store.old engine.old.trail.lits conflict }
+    ensures learnt { (s : Held) → HasLearnt s store.old news.old.items → HasLearnt s store.new news.new.items }
+    ensures few { length news.new.items ≤ length news.old.items + 1 }
+    ensures adds { IfOk result (AddsNews news.old.items news.new.items) }
+    ensures root { IfOk result (λ step. Contains (stored store.old) [] → FindsEmpty news.old.items news.new.items step) }
+    ensures leads { IfOk result (λ step. (assumed : List ℕ) → LeadsTo engine.old.trail engine.new.prop store.new engine.new.trail assumed engine.new.vars_passed engine.new.assumed_passed step) }
+{
+    let _vars = store.vars();
+    let _level = engine.trail.level();
+    if has_empty(store) {
+        return Ok(Step::Refuted);
+    }
+    let empty = Lits::new(engine.alloc);
+    add_clause(&mut engine.prop, &engine.trail, store, empty, news)?;
+    Ok(Step::Refuted)
+}
+
+/// Faces a conflict.
+pub(crate) fn handle_conflict(
+    engine: &mut Engine,
+    store: &mut Store,
+    conflict: Key,
+    news: &mut Vec<Clause>,
+) -> Result<Step, AllocError>
+    requires known { AreKnown store.old }
+    requires tied { IsTied engine.old.prop store.old engine.old.trail }
+    requires ready { IsReady store.old engine.old.trail }
+    requires conflict { HasFalse store.old engine.old.trail.lits conflict }
+    ensures learnt { (s : Held) → HasLearnt s store.old news.old.items → HasLearnt s store.new news.new.items }
+    ensures few { length news.new.items ≤ length news.old.items + 1 }
+    ensures adds { IfOk result (AddsNews news.old.items news.new.items) }
+    ensures root { IfOk result (λ step. Contains (stored store.old) [] → FindsEmpty news.old.items news.new.items step) }
+    ensures leads { IfOk result (λ step. (assumed : List ℕ) → IsLed assumed engine.old.trail → IsWithin store.old.vars assumed → IsPassed store.old engine.old.trail.lits engine.old.vars_passed → LeadsTo engine.old.trail engine.new.prop store.new engine.new.trail assumed engine.new.vars_passed engine.new.assumed_passed step) }
+{
+    if engine.trail.level() == 0 {
+        return refute(engine, store, news, conflict);
+    }
+    learn(engine, store, conflict, news)?;
+    Ok(Step::Learnt)
 }

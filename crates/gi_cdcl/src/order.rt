@@ -1,151 +1,213 @@
+use crate::varlist::VarList;
 use gi_lit::{Lit, Var};
 use std::alloc::{AllocError, Global};
-use std::collections::BinaryHeap;
 
-// How much the scores of the first conflict rise.
-const FIRST_RISE: u64 = 1 << 20;
+/// After so many learnt clauses their variables move to the front.
+const BATCH: u32 = 32;
 
-// Where the rise and all scores are scaled down.
-const MOST_RISE: u64 = 1 << 52;
-
-/// The order in which variables are decided, with the last value of each. The greatest score comes first, and of equal ones the least variable.
-/// Scores of variables that met a conflict rise, at each conflict by a sixteenth more than at the one before. No contract speaks of the choice: a
-/// variable that finds no memory to wait in the queue is found by going through all variables.
-#[derive(Drop)]
-pub(crate) struct Order {
-    /// Scores with how far the variable is from the end of its type; what isn't a waiting variable's score is passed over.
-    queue: BinaryHeap<(u64, u32)>,
-    scores: Vec<u64>,
-    waits: Vec<bool>,
-    phases: Vec<bool>,
-    rise: u64,
+/// A variable of the batch's clauses: in how many of them it stands, its stamp, and its place among all variables.
+#[derive(Clone, Copy, PartialEq, Eq, PartialOrd, Ord)]
+struct Bumped {
+    count: u8,
+    stamp: u32,
+    at: u32,
 }
 
-/// The place of a variable in the tables.
-fn place(v: Var) -> usize {
-    (v.index() - 1) as usize
+/// The order in which variables are decided, by moving to the front: all variables stand in one list, and the first that has no value is decided, with
+/// the value that it had last (phase saving). After every 32 learnt clauses their variables move to the front. A variable has the stamp of its last
+/// move, so that stamps fall along the list, and a cursor tells before which place all variables have values. No contract speaks of the choice: a
+/// variable that was missed is found by going through all variables.
+#[derive(Drop)]
+pub(crate) struct Order {
+    list: VarList,
+    stamps: Vec<u32>,
+    phases: Vec<bool>,
+    /// The last stamp.
+    clock: u32,
+    /// Where to look for the next decision, by place; None behind the last variable.
+    cursor: Option<u32>,
+    /// In how many clauses of the present batch each variable stands.
+    counts: Vec<u8>,
+    /// The variables that stand in one, each once.
+    bumped: Vec<Bumped>,
+    /// How many clauses the present batch has.
+    clauses: u32,
 }
 
 impl Order {
     /// The order of no variable.
     pub(crate) fn new(alloc: Global) -> Order {
         Order {
-            queue: BinaryHeap::new(alloc),
-            scores: Vec::new(alloc),
-            waits: Vec::new(alloc),
+            list: VarList::new(alloc),
+            stamps: Vec::new(alloc),
             phases: Vec::new(alloc),
-            rise: FIRST_RISE,
+            clock: 0,
+            cursor: None,
+            counts: Vec::new(alloc),
+            bumped: Vec::new(alloc),
+            clauses: 0,
         }
     }
 
-    /// Makes the count of variables at least n. The new ones have score 0, and false as their last value.
+    /// Makes the count of variables at least n. The new ones stand in front, the least first, with false as their last value.
     pub(crate) fn grow(&mut self, n: u32) -> Result<(), AllocError> {
-        let first = self.scores.len();
-        self.scores.reserve((n as usize).saturating_sub(first))?;
-        for index in first..n as usize {
-            self.scores.push(0)?;
-            self.waits.push(false)?;
+        let more = (n as usize).saturating_sub(self.stamps.len());
+        self.stamps.reserve(more)?;
+        self.phases.reserve(more)?;
+        self.counts.reserve(more)?;
+        self.list.grow(n)?;
+        for _i in 0..more {
+            self.stamps.push(0)?;
             self.phases.push(false)?;
-            self.put(index);
+            self.counts.push(0)?;
+        }
+        if more > 0 {
+            self.restamp();
         }
         Ok(())
     }
 
-    /// How many entries wait, those among them that are passed over.
-    pub(crate) fn len(&self) -> usize {
-        self.queue.len()
+    /// Numbers the stamps anew, so that they fall along the list.
+    fn restamp(&mut self) {
+        let mut stamp = self.list.len();
+        self.clock = stamp;
+        let mut at = self.list.first();
+        for _i in 0..self.list.len() {
+            if let Some(v) = at {
+                if let Some(place) = self.stamps.get_mut(v as usize) {
+                    *place = stamp;
+                }
+                stamp = stamp.saturating_sub(1);
+                at = self.list.next(v);
+            }
+        }
+    }
+
+    /// How many variables there are.
+    pub(crate) fn len(&self) -> u32 {
+        self.list.len()
+    }
+
+    /// The next decision is looked for from the front.
+    pub(crate) fn rewind(&mut self) {
+        self.cursor = self.list.first();
+    }
+
+    /// The variable at the cursor.
+    pub(crate) fn next(&self) -> Option<Var> {
+        Var::new(self.cursor?.saturating_add(1))
+    }
+
+    /// The variable at the cursor has a value, or none is wanted: the cursor goes on.
+    pub(crate) fn pass(&mut self) {
+        if let Some(v) = self.cursor {
+            if v < self.list.len() {
+                self.cursor = self.list.next(v);
+            }
+        }
     }
 
     /// The last value of a variable; false of one that never had a value.
     pub(crate) fn phase(&self, v: Var) -> bool {
-        match self.phases.get(place(v)) {
+        match self.phases.get((v.index() - 1) as usize) {
             Some(phase) => *phase,
             None => false,
         }
     }
 
-    /// Puts the variable at a place into the queue, unless it waits there.
-    fn put(&mut self, at: usize) {
-        let Ok(index) = u32::try_from(at) else {
-            return;
-        };
-        match (self.scores.get(at), self.waits.get_mut(at)) {
-            (Some(score), Some(waits)) => {
-                if !*waits && self.queue.push((*score, u32::MAX - index)).is_ok() {
-                    *waits = true;
-                }
-            }
-            _ => {}
+    /// The stamp of the variable at a place; 0 where there is none.
+    fn stamp(&self, at: u32) -> u32 {
+        match self.stamps.get(at as usize) {
+            Some(stamp) => *stamp,
+            None => 0,
         }
     }
 
-    /// Takes the first variable that waits.
-    pub(crate) fn take(&mut self) -> Option<Var> {
-        for _entry in 0..self.queue.len() {
-            let (score, rest) = self.queue.pop()?;
-            let index = u32::MAX - rest;
-            let at = index as usize;
-            match (self.scores.get(at), self.waits.get_mut(at)) {
-                (Some(now), Some(waits)) => {
-                    if *waits && *now == score {
-                        *waits = false;
-                        return Var::new(index.saturating_add(1));
-                    }
-                }
-                _ => {}
-            }
-        }
-        None
-    }
-
-    /// A literal loses its truth: its variable waits again, and its value is kept.
-    pub(crate) fn give_back(&mut self, l: Lit) {
-        let at = place(l.var());
-        if let Some(phase) = self.phases.get_mut(at) {
+    /// A literal loses its truth: its value is kept, and the cursor goes back to its variable if that stands before it.
+    pub(crate) fn unassign(&mut self, l: Lit) {
+        let at = l.var().index() - 1;
+        if let Some(phase) = self.phases.get_mut(at as usize) {
             *phase = !l.is_negative();
         }
-        self.put(at);
+        let is_before = match self.cursor {
+            Some(cursor) => self.stamp(at) > self.stamp(cursor),
+            None => true,
+        };
+        if is_before {
+            self.cursor = Some(at);
+        }
     }
 
-    /// Raises the scores of the variables at the marked places of a trail. They have values, so they wait again once they lose them.
-    pub(crate) fn raise(&mut self, lits: &[Lit], seen: &[bool]) {
-        for (l, met) in lits.iter().zip(seen) {
-            let at = place(l.var());
-            if *met {
-                if let Some(score) = self.scores.get_mut(at) {
-                    *score = score.saturating_add(self.rise);
-                }
-                if let Some(waits) = self.waits.get_mut(at) {
-                    *waits = false;
-                }
+    /// Takes a learnt clause into the present batch. Where that is full, the variables of its clauses move to the front: those of the fewest clauses
+    /// first, so that those of the most come to stand in front, and of equal ones in the order in which they stand.
+    pub(crate) fn bump(&mut self, clause: &[Lit]) -> Result<(), AllocError> {
+        for l in clause {
+            self.count(l.var().index() - 1)?;
+        }
+        self.clauses = self.clauses.saturating_add(1);
+        if self.clauses >= BATCH {
+            self.clauses = 0;
+            self.rank_bumped();
+            self.move_bumped();
+            self.rewind();
+        }
+        Ok(())
+    }
+
+    /// One clause more of the present batch has the variable at a place.
+    fn count(&mut self, at: u32) -> Result<(), AllocError> {
+        if let Some(count) = self.counts.get_mut(at as usize) {
+            let is_first = *count == 0;
+            *count = count.saturating_add(1);
+            if is_first {
+                self.bumped.push(Bumped {
+                    count: 0,
+                    stamp: 0,
+                    at,
+                })?;
             }
         }
-        self.rise = self.rise.saturating_add(self.rise / 16);
-        if self.rise >= MOST_RISE {
-            self.scale_down();
-        }
-        if self.queue.len() / 4 > self.scores.len() {
-            self.rebuild();
-        }
+        Ok(())
     }
 
-    /// Divides the rise and all scores, and builds the queue anew.
-    fn scale_down(&mut self) {
-        self.rise = FIRST_RISE;
-        for score in self.scores.iter_mut() {
-            *score /= MOST_RISE / FIRST_RISE;
-        }
-        self.rebuild();
-    }
-
-    /// Builds the queue anew, without the entries that are passed over.
-    fn rebuild(&mut self) {
-        self.queue.clear();
-        for at in 0..self.scores.len() {
-            if let Some(waits) = self.waits.get_mut(at) {
-                *waits = false;
+    /// Notes counts and stamps of the batch's variables, and sorts by them.
+    fn rank_bumped(&mut self) {
+        for bumped in self.bumped.iter_mut() {
+            if let Some(count) = self.counts.get_mut(bumped.at as usize) {
+                bumped.count = *count;
+                *count = 0;
             }
-            self.put(at);
+            if let Some(stamp) = self.stamps.get(bumped.at as usize) {
+                bumped.stamp = *stamp;
+            }
+        }
+        self.bumped.sort_unstable();
+    }
+
+    /// Moves the batch's variables to the front, one after the other.
+    fn move_bumped(&mut self) {
+        for i in 0..self.bumped.len() {
+            if let Some(bumped) = self.bumped.get(i) {
+                let at = bumped.at;
+                self.move_to_front(at);
+            }
+        }
+        self.bumped.clear();
+    }
+
+    /// Moves the variable at a place to the front, and gives it the greatest stamp.
+    fn move_to_front(&mut self, at: u32) {
+        if at >= self.list.len() {
+            return;
+        }
+        self.list.move_to_front(at);
+        if self.clock == u32::MAX {
+            self.restamp();
+            return;
+        }
+        self.clock += 1;
+        if let Some(stamp) = self.stamps.get_mut(at as usize) {
+            *stamp = self.clock;
         }
     }
 }

@@ -1,10 +1,11 @@
-ghost use Rattle.std.specs.Prelude.{◌≡◌, ◌≢◌, ◌+◌, ◌<◌, ◌≤◌, ℕ, [], length, IfOk, OnOk, IsTrue, ◌↔◌};
+ghost use Rattle.std.specs.Prelude.{◌≡◌, ◌≢◌, ◌+◌, ◌<◌, ◌≤◌, ℕ, [], length, Contains, IfOk, OnOk, IsTrue, ◌↔◌};
 ghost use Rattle.gi_store.specs.Held.{IsWithin};
 ghost use Rattle.gi_prop.specs.Assigned.{no_lits};
 ghost use Rattle.gi_cdcl.specs.Searching.{AreKnown};
 ghost use Rattle.gi_cdcl.specs.Going.{AreAttached, IsGoing, HasLearnt};
 ghost use Rattle.gi_cdcl.specs.Finish.{Finishes};
-ghost use Rattle.gi_cdcl.specs.declared.slice.Slice.TheVariants.{NoMemory};
+ghost use Rattle.gi_cdcl.specs.declared.slice.Slice.TheVariants.{Braked, NoMemory};
+ghost use Rattle.gi_cdcl.specs.Sound.{stored};
 
 use crate::brake::Brake;
 use crate::engine::{Bounds, Engine, Progress};
@@ -48,6 +49,7 @@ fn run<B: Brake>(
     ensures follows { B.follows brake.old brake.new }
     ensures finishes { IfOk result (Finishes store.new assumed.now bounds.limit bounds.serial progress.new.mark progress.new.news.items) }
     ensures asks { OnOk result (length progress.new.news.items < B.asks brake.new) }
+    ensures asks_root { IfOk result (λ end. end ≢ Braked → Contains (stored store.old) [] → length progress.new.news.items + 1 < B.asks brake.new) }
     ensures attached { OnOk result (AreAttached engine.new.prop store.new engine.new.trail) }
 {
     'steps: loop {
@@ -96,11 +98,13 @@ fn begin<B: Brake>(
     ensures follows { B.follows brake.old brake.new }
     ensures finishes { IfOk result (Finishes store.new assumed.now bounds.limit bounds.serial progress.new.mark progress.new.news.items) }
     ensures asks { OnOk result (length progress.new.news.items < B.asks brake.new) }
+    ensures asks_root { IfOk result (λ end. end ≢ Braked → Contains (stored store.old) [] → length progress.new.news.items + 1 < B.asks brake.new) }
     ensures attached { OnOk result (AreAttached engine.new.prop store.new engine.new.trail) }
 {
     let vars = store.vars();
     engine.trail.grow(vars)?;
     engine.order.grow(vars)?;
+    engine.order.rewind();
     engine.vars_passed = 0;
     engine.assumed_passed = 0;
     run(engine, store, assumed, bounds, brake, progress)
@@ -129,6 +133,7 @@ pub(crate) fn start<B: Brake>(
     ensures follows { B.follows brake.old brake.new }
     ensures finishes { Finishes store.new assumed.now bounds.limit bounds.serial progress.new.mark progress.new.news.items result }
     ensures asks { result ≢ NoMemory → length progress.new.news.items < B.asks brake.new }
+    ensures asks_root { result ≢ NoMemory → result ≢ Braked → Contains (stored store.old) [] → length progress.new.news.items + 1 < B.asks brake.new }
     ensures attached { result ≢ NoMemory → AreAttached engine.new.prop store.new engine.new.trail }
 {
     if ask(brake, &mut progress.mark, bounds.serial) {

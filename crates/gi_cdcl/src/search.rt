@@ -1,15 +1,17 @@
-ghost use Rattle.std.specs.Prelude.{◌≡◌, ◌≢◌, ◌<◌, ◌≤◌, ℕ, List, length, OnOk, OnErr};
+ghost use Rattle.std.specs.Prelude.{◌≡◌, ◌≢◌, ◌+◌, ◌<◌, ◌≤◌, ℕ, List, [], length, Contains, OnOk, OnErr};
 ghost use Rattle.gi_store.specs.Held.{Held, IsLive, IsWithin, Keeps};
 ghost use Rattle.gi_prop.specs.Attached.{IsAttached, Attaches, Detaches, HasSameKeys};
 ghost use Rattle.gi_cdcl.specs.Searching.{GoesWith, HasAll, AreKnown};
 ghost use Rattle.gi_cdcl.specs.Ends.{Slices};
-ghost use Rattle.gi_cdcl.specs.declared.slice.Slice.TheVariants.{NoMemory};
+ghost use Rattle.gi_cdcl.specs.declared.slice.Slice.TheVariants.{Braked, NoMemory};
+ghost use Rattle.gi_cdcl.specs.Sound.{stored};
 
 use crate::brake::Brake;
 use crate::decide::give_back;
 use crate::engine::{Bounds, Engine, Progress};
 use crate::order::Order;
 use crate::run::start;
+use crate::seen::Seen;
 use crate::slice::Sliced;
 use gi_lit::{Clauses, Lit};
 use gi_prop::{Prop, Trail};
@@ -46,6 +48,7 @@ impl Search {
             trail: Trail::new(alloc),
             prop: Prop::new(alloc),
             order: Order::new(alloc),
+            seen: Seen::new(alloc),
             vars_passed: 0,
             assumed_passed: 0,
         };
@@ -77,7 +80,8 @@ impl Search {
 
     /// Searches until so many clauses were learnt, the brake tells a mark that reaches the serial, or there is a verdict on the clauses in force
     /// and the assumptions. The clauses that it learns stand in the store, and are attached, unless memory was wanting: then the store's problem is
-    /// as before, what was learnt stands in it, and the search isn't used again.
+    /// as before, what was learnt stands in it, and the search isn't used again. The brake is asked at the start and after each conflict: after each
+    /// that teaches a clause, and after the one at the root where a clause was empty before.
     pub fn slice<B: Brake>(
         &mut self,
         store: &mut Store,
@@ -97,6 +101,7 @@ impl Search {
         ensures mark { result.mark ≡ B.top brake.new }
         ensures follows { B.follows brake.old brake.new }
         ensures asks { result.end ≢ NoMemory → length result.news < B.asks brake.new }
+        ensures asks_root { result.end ≢ NoMemory → result.end ≢ Braked → Contains (stored store.old) [] → length result.news + 1 < B.asks brake.new }
         ensures goes { result.end ≢ NoMemory → GoesWith self.new store.new × HasAll self.new store.new }
     {
         let bounds = Bounds { limit, serial };

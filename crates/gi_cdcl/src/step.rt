@@ -1,15 +1,15 @@
-ghost use Rattle.std.specs.Prelude.{◌≡◌, ◌+◌, ◌<◌, ◌≤◌, ℕ, List, length, All, Contains, IfOk};
+ghost use Rattle.std.specs.Prelude.{◌≡◌, ◌+◌, ◌<◌, ◌≤◌, ℕ, List, [], length, All, Contains, IfOk};
 ghost use Rattle.gi_lit.specs.Closure.{IsClosed};
 ghost use Rattle.gi_store.specs.Held.{Held};
 ghost use Rattle.gi_cdcl.specs.Sound.{stored};
 ghost use Rattle.gi_cdcl.specs.Values.{IsPassed};
 ghost use Rattle.gi_cdcl.specs.Going.{IsGoing, HasLearnt};
-ghost use Rattle.gi_cdcl.specs.Steps.{AddsNews, LeadsTo};
+ghost use Rattle.gi_cdcl.specs.Steps.{AddsNews, FindsEmpty, LeadsTo};
 
-use crate::assume::{Next, explain, next_assumption};
+use crate::assume::{Next, analyze_final, next_assumption};
 use crate::decide::{assignment, decide, free_literal};
 use crate::engine::Engine;
-use crate::teach::face;
+use crate::learn::handle_conflict;
 use gi_lit::{Assign, Clause, Lit, Lits};
 use gi_store::Store;
 use std::alloc::AllocError;
@@ -21,7 +21,7 @@ pub(crate) enum Step {
     Decided,
     /// A clause was learnt that isn't empty.
     Learnt,
-    /// The empty clause was learnt.
+    /// The clauses conflict at the root: the empty clause was learnt, or a stored one is empty.
     Refuted,
     /// The values satisfy the clauses in force and the assumptions.
     Sat(Assign),
@@ -58,7 +58,7 @@ fn decide_variable(engine: &mut Engine, store: &Store) -> Result<Step, AllocErro
 }
 
 /// Goes on where nothing is left to propagate: decides the next assumption or a variable, or has a verdict.
-fn advance(engine: &mut Engine, store: &Store, assumed: &[Lit]) -> Result<Step, AllocError>
+fn decide_next(engine: &mut Engine, store: &Store, assumed: &[Lit]) -> Result<Step, AllocError>
     requires going { IsGoing engine.old.prop store.now engine.old.trail assumed.now engine.old.vars_passed engine.old.assumed_passed }
     requires closed { IsClosed (stored store.now) engine.old.trail.lits }
     ensures adds { IfOk result (λ step. (news : List (List ℕ)) → AddsNews news news step) }
@@ -68,7 +68,14 @@ fn advance(engine: &mut Engine, store: &Store, assumed: &[Lit]) -> Result<Step, 
     let _level = engine.trail.level();
     match next_assumption(&engine.trail, assumed, &mut engine.assumed_passed) {
         Next::Failed(l) => {
-            let failing = explain(engine.alloc, store, &engine.trail, assumed, l)?;
+            let failing = analyze_final(
+                engine.alloc,
+                store,
+                &engine.trail,
+                &mut engine.seen,
+                assumed,
+                l,
+            )?;
             Ok(Step::Failed(failing))
         }
         Next::Free(l) => {
@@ -90,11 +97,12 @@ pub(crate) fn take_step(
     ensures learnt { (s : Held) → HasLearnt s store.old news.old.items → HasLearnt s store.new news.new.items }
     ensures few { length news.new.items ≤ length news.old.items + 1 }
     ensures adds { IfOk result (AddsNews news.old.items news.new.items) }
+    ensures root { IfOk result (λ step. Contains (stored store.old) [] → FindsEmpty news.old.items news.new.items step) }
     ensures leads { IfOk result (LeadsTo engine.old.trail engine.new.prop store.new engine.new.trail assumed.now engine.new.vars_passed engine.new.assumed_passed) }
 {
     let _level = engine.trail.level();
     match engine.prop.propagate(store, &mut engine.trail) {
-        Some(conflict) => face(engine, store, conflict, news),
-        None => advance(engine, store, assumed),
+        Some(conflict) => handle_conflict(engine, store, conflict, news),
+        None => decide_next(engine, store, assumed),
     }
 }

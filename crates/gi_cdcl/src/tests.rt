@@ -1,10 +1,13 @@
 ghost use Rattle.std.specs.Prelude.{◌≡◌, ◌≤◌, OnOk, IfOk};
+ghost use Rattle.gi_lit.specs.Literals.{max_var};
 ghost use Rattle.gi_cdcl.specs.Searching.{GoesWith, HasAll, AreKnown};
 
-use crate::laws::{learnt_clauses_are_fresh, learnt_clauses_stay_known, news_are_few};
+use crate::laws::{
+    edits_keep_searches, learnt_clauses_are_fresh, learnt_clauses_stay_known, news_are_few,
+};
 use crate::{Brake, Search, Slice};
-use gi_lit::{Lit, Lits, Var};
-use gi_store::{NewGuard, Store};
+use gi_lit::{Lit, Lits};
+use gi_store::Store;
 use std::alloc::{AllocError, Global};
 use std::test::Fail;
 
@@ -47,28 +50,18 @@ fn lits(alloc: Global, numbers: &[i32]) -> Result<Lits, AllocError> {
     Ok(list)
 }
 
-/// Adds a clause, under the guard if there is one.
-fn add(store: &mut Store, guard: Option<Var>, clause: &[Lit]) -> Result<(), Fail> {
+/// Adds a clause.
+fn add(store: &mut Store, clause: &[Lit]) -> Result<(), Fail> {
     if !store.is_plain(clause) {
         return Err("variables of the problem".into());
     }
-    match guard {
-        None => {
-            let _ = store.add(clause)?;
-        }
-        Some(g) => {
-            if !store.is_active(g) {
-                return Err("an active guard".into());
-            }
-            let _ = store.add_under(g, clause)?;
-        }
-    }
+    let _ = store.add(clause)?;
     Ok(())
 }
 
 /// A store of clauses over so many variables. The numbers are those of DIMACS, and 0 ends a clause.
 fn stored(alloc: Global, vars: u32, numbers: &[i32]) -> Result<Store, Fail>
-    requires { vars ≤ 1048576 }
+    requires { vars ≤ max_var }
 {
     let mut store = Store::new(alloc);
     store.grow(vars)?;
@@ -77,7 +70,7 @@ fn stored(alloc: Global, vars: u32, numbers: &[i32]) -> Result<Store, Fail>
         match Lit::from_dimacs(*n) {
             Some(l) => clause.push(l)?,
             None => {
-                add(&mut store, None, clause.as_slice())?;
+                add(&mut store, clause.as_slice())?;
                 clause = Lits::new(alloc);
             }
         }
@@ -178,28 +171,56 @@ fn slice(
     Ok((sliced.news.len(), sliced.mark, end_of(&sliced.end)))
 }
 
+/// A slice on clauses over two variables, and what it gives.
+struct Row {
+    clauses: &'static [i32],
+    assumed: &'static [i32],
+    mark: u64,
+    outcome: Outcome,
+}
+
+/// A model by a unit, the brake, assumptions that fail, and a clause that is empty at the beginning.
+const ROWS: [Row; 4] = [
+    Row {
+        clauses: &[1, 2, 0, -1, 0],
+        assumed: &[],
+        mark: 0,
+        outcome: (0, 0, End::Sat(2)),
+    },
+    Row {
+        clauses: &[1, 2, 0, -1, 0],
+        assumed: &[],
+        mark: 1,
+        outcome: (0, 1, End::Braked),
+    },
+    Row {
+        clauses: &[-1, -2, 0],
+        assumed: &[1, 2],
+        mark: 0,
+        outcome: (0, 0, End::Unsat(20)),
+    },
+    Row {
+        clauses: &[1, 0, 0],
+        assumed: &[2],
+        mark: 0,
+        outcome: (0, 0, End::Unsat(0)),
+    },
+];
+
 /// One slice on a problem.
-fn run(alloc: Global, numbers: &[i32], assumed: &[i32], mark: u64) -> Result<Outcome, Fail> {
-    let mut store = stored(alloc, 2, numbers)?;
+fn run(alloc: Global, row: &Row) -> Result<Outcome, Fail> {
+    let mut store = stored(alloc, 2, row.clauses)?;
     let mut search = search_of(alloc, &store)?;
-    let assumed = lits(alloc, assumed)?;
-    slice(&mut search, &mut store, assumed.as_slice(), 32, mark)
+    let assumed = lits(alloc, row.assumed)?;
+    slice(&mut search, &mut store, assumed.as_slice(), 32, row.mark)
 }
 
 #[test]
 fn small_problems(rt: HostRuntime) -> Result<(), Fail> {
-    let unit = [1, 2, 0, -1, 0];
-    let pair = [-1, -2, 0];
-    assert_eq!(rt; run(rt.alloc(), &unit, &[], 0)?, (0, 0, End::Sat(2)));
-    assert_eq!(rt; run(rt.alloc(), &unit, &[], 1)?, (0, 1, End::Braked));
-    let failing = 1 << 2 | 1 << 4;
-    assert_eq!(rt;
-        run(rt.alloc(), &pair, &[1, 2], 0)?,
-        (0, 0, End::Unsat(failing))
-    );
-    learnt_clauses_are_fresh();
-    learnt_clauses_stay_known();
-    news_are_few();
+    for row in ROWS.iter() {
+        let outcome = run(rt.alloc(), row)?;
+        assert!(rt; outcome == row.outcome);
+    }
     Ok(())
 }
 
@@ -218,157 +239,15 @@ fn three_pigeons_in_two_holes(rt: HostRuntime) -> Result<(), Fail> {
         1, 2, 0, 3, 4, 0, 5, 6, 0, -1, -3, 0, -1, -5, 0, -3, -5, 0, -2, -4, 0, -2, -6, 0, -4, -6, 0,
     ];
     let (first, second) = run_twice(rt.alloc(), &holes)?;
-    assert_eq!(rt; first, (1, 0, End::Learned));
-    assert_eq!(rt; second.2, End::Unsat(0));
+    assert!(rt; first == (1, 0, End::Learned));
+    assert!(rt; second.2 == End::Unsat(0));
     Ok(())
-}
-
-/// The next of a row of numbers that look drawn.
-fn next(seed: u64) -> u64 {
-    seed.wrapping_mul(6_364_136_223_846_793_005)
-        .wrapping_add(1_442_695_040_888_963_407)
-}
-
-/// A literal of the variables 1 to 20.
-fn drawn(seed: &mut u64) -> Result<Lit, Fail> {
-    *seed = next(*seed);
-    Ok(Lit::from_code(((*seed >> 33) % 40) as u32 + 2).ok_or("a literal")?)
-}
-
-/// A clause as two sets of variables: those that it has positive, and those that it has negative.
-#[derive(Clone, Copy)]
-struct Signs {
-    positive: u32,
-    negative: u32,
-}
-
-fn signs_of(clause: &[Lit]) -> Signs {
-    let mut sets = Signs {
-        positive: 0,
-        negative: 0,
-    };
-    for l in clause {
-        let bit = 1u32.wrapping_shl(l.var().index() - 1);
-        if l.is_negative() {
-            sets.negative |= bit;
-        } else {
-            sets.positive |= bit;
-        }
-    }
-    sets
-}
-
-/// Whether the variables in the set, true, and the others, false, satisfy a clause.
-fn satisfies(set: u32, clause: Signs) -> bool {
-    set & clause.positive != 0 || !set & clause.negative != 0
-}
-
-/// The next set that may satisfy the clause: none does that agrees with this one from the clause's least variable on.
-fn skip(set: u32, clause: Signs) -> u32 {
-    let least = (clause.positive | clause.negative).trailing_zeros();
-    set.wrapping_shr(least).wrapping_add(1).wrapping_shl(least)
-}
-
-/// Whether some values of 20 variables satisfy the clauses, by counting through all.
-fn is_satisfiable(clauses: &[Signs]) -> bool {
-    let mut set = 0u32;
-    for _ in 0..1_048_576 {
-        match clauses.iter().find(|c| !satisfies(set, **c)) {
-            None => return true,
-            Some(c) => set = skip(set, *c),
-        }
-        if set >= 1_048_576 {
-            return false;
-        }
-    }
-    false
-}
-
-/// Draws clauses of three literals, adds them under the guard, and keeps them if they count.
-fn add_drawn(
-    store: &mut Store,
-    guard: Option<Var>,
-    seed: &mut u64,
-    in_force: &mut Vec<Signs>,
-    counts: bool,
-) -> Result<(), Fail> {
-    for _ in 0..43 {
-        let clause = [drawn(seed)?, drawn(seed)?, drawn(seed)?];
-        add(store, guard, &clause)?;
-        if counts {
-            in_force.push(signs_of(&clause))?;
-        }
-    }
-    Ok(())
-}
-
-/// Draws assumptions behind those that are there, and keeps them as clauses.
-fn assume_drawn(
-    assumed: &mut Lits,
-    count: u32,
-    seed: &mut u64,
-    in_force: &mut Vec<Signs>,
-) -> Result<(), Fail> {
-    for _ in 0..count {
-        let l = drawn(seed)?;
-        assumed.push(l)?;
-        in_force.push(signs_of(&[l]))?;
-    }
-    Ok(())
-}
-
-/// Slices until there is a verdict.
-fn search_on(alloc: Global, store: &mut Store, assumed: &[Lit]) -> Result<End, Fail> {
-    let mut search = search_of(alloc, store)?;
-    let mut end = End::Learned;
-    for _i in 0..1000 {
-        if end == End::Learned {
-            end = slice(&mut search, store, assumed, 5, 0)?.2;
-        }
-    }
-    Ok(end)
-}
-
-/// Draws half of the clauses plain and half under a guard, which is assumed or not, and assumptions. Gives whether there is a model, found slowly, and
-/// whether the search's verdict is right.
-fn is_round_right(alloc: Global, round: u32, seed: &mut u64) -> Result<(bool, bool), Fail> {
-    let mut store = stored(alloc, 20, &[])?;
-    let guard = match store.new_guard() {
-        NewGuard::Guard(g) => g,
-        _ => return Err("a guard".into()),
-    };
-    let is_on = round % 2 == 0;
-    let mut in_force = Vec::new(alloc);
-    add_drawn(&mut store, None, seed, &mut in_force, true)?;
-    add_drawn(&mut store, Some(guard), seed, &mut in_force, is_on)?;
-    let mut assumed = Lits::new(alloc);
-    if is_on {
-        assumed.push(guard.positive())?;
-    }
-    assume_drawn(&mut assumed, round % 4, seed, &mut in_force)?;
-    let is_sat = is_satisfiable(&in_force);
-    let is_right = match search_on(alloc, &mut store, assumed.as_slice())? {
-        End::Sat(set) => is_sat && in_force.iter().all(|c| satisfies(set, *c)),
-        End::Unsat(failing) => !is_sat && failing & !codes_of(assumed.as_slice()) == 0,
-        _ => false,
-    };
-    Ok((is_sat, is_right))
 }
 
 #[test]
-fn verdicts_are_those_of_a_slow_solver(rt: HostRuntime) -> Result<(), Fail> {
-    let mut seed = 1;
-    let mut has_model = false;
-    let mut has_none = false;
-    for round in 0..40u32 {
-        let (is_sat, is_right) = is_round_right(rt.alloc(), round, &mut seed)?;
-        assert!(rt; is_right, "at {round}");
-        if is_sat {
-            has_model = true;
-        } else {
-            has_none = true;
-        }
-    }
-    assert!(rt; has_model && has_none);
-    Ok(())
+fn laws_are_called() {
+    learnt_clauses_are_fresh();
+    learnt_clauses_stay_known();
+    news_are_few();
+    edits_keep_searches();
 }

@@ -1,7 +1,7 @@
 use Rattle.std.proofs.Common.{◌≡◌, ◌<◌, ℕ, List, [], length, get_or, sym, ◌∙◌, ap, subst, arith, inl, inr}
 use Rattle.std.proofs.lemmas.Bool.{cases_eq}
 use Rattle.gi_cdcl.specs.Sound.{stored}
-use Rattle.gi_cdcl.proofs.Empties.{stored_at, not_empty}
+use Rattle.gi_cdcl.proofs.Empties.{stored_at, not_empty, full_nonempty}
 use Rattle.gi_cdcl.proofs.empty.has_empty_in_problem.Goals as goal
 
 pub loop-i-preserved : goal.loop-i-preserved
@@ -12,3 +12,6 @@ loop-i-preserved c j lt = elim (cases_eq j c.loop-i.i) [
       subst (λ (xs : List ℕ). 0 < length xs) (sym is) (not_empty (length c.clause.result.now) (sym c.is_empty.ensures ∙ c.if-is_empty.false))
   | inr other ↦ c.loop-i.invariant j (omega arith)
 ]
+
+pub returns-clause-no : goal.returns-clause-no
+returns-clause-no c q = full_nonempty c.args.store.now (λ j lt. c.loop-i.invariant j (omega (arith, lt, c.loop-i-test.false, c.problem-i-end.ensures)))
