@@ -1,25 +1,24 @@
 -- Which keys of a store are its problem's, and what propagation over them adds.
-use Rattle.std.proofs.Common.{◌≡◌, ℕ, ◌+◌, ◌-◌, ◌/◌, ◌<◌, ◌≤◌, cond, Option, Some, None, List, [], ◌∷◌, ◌++◌, length, map, take, drop, get_or, refl, sym, ap, ◌∙◌, subst, arith, ◌⊎◌, inl, inr, length-append}
+use Rattle.std.proofs.Common.{◌≡◌, ℕ, ◌+◌, ◌-◌, ◌/◌, ◌<◌, ◌≤◌, cond, Option, Some, None, List, [], ◌∷◌, ◌++◌, length, take, drop, get_or, sym, ap, ◌∙◌, subst, arith, ◌⊎◌, inl, inr}
 use Rattle.std.specs.List.{All, Contains, slice_get}
-use Rattle.std.specs.Option.{IfNone, IfSome}
 use Rattle.std.proofs.lemmas.Bool.{ne_eqb}
 use Rattle.std.proofs.lemmas.Option.{get_or_from_slice_get, slice_get_cases}
-use Rattle.std.proofs.lemmas.List.{get_or_default, get_or_append_left, get_or-map, length-map, take_more, take-append-drop, drop_more, take_at, get_or_read}
+use Rattle.std.proofs.lemmas.List.{get_or-map, length-map, take_more, take-append-drop, drop_more, get_or_read}
 use Rattle.std.proofs.lemmas.List.Elements.{All-append, All-contains, Contains-get_or, Contains-append_left, Contains-push, Contains-push_cases}
 use Rattle.gi_lit.specs.Lists.{IsDistinct}
-use Rattle.gi_lit.specs.Closure.{IsClosed}
+use Rattle.gi_lit.specs.Closure.{IsStep, IsDerivation, IsClosed}
 use Rattle.gi_lit.specs.Problem.{full}
+use Rattle.gi_lit.specs.Guards.{IsGuardedLit}
+use Rattle.gi_lit.proofs.Resting.{rests}
 use Rattle.gi_lit.proofs.Distinct.{Contains-head, IsDistinct-apart}
 use Rattle.gi_store.specs.Held.{Entry, Held, Holds, IsLive, IsWithin, problem_of, known_of, entries, keys_of, at_place}
 use Rattle.gi_store.specs.Whole.{IsWhole}
-use Rattle.gi_store.specs.Laws.{IsGuardedLit}
-use Rattle.gi_store.proofs.Resting.{rests}
 use Rattle.gi_store.proofs.Removing.{one_clause}
 use Rattle.gi_store.proofs.Editing.{entries_are}
 use Rattle.gi_prop.specs.Assigned.{Assigned, StandsAt}
 use Rattle.gi_prop.specs.Attached.{Attached, IsAttached, Goes, HasSameKeys, Attaches, AddsForced, AreSettled, IsConflict}
-use Rattle.gi_scopes.specs.Under.{AreForced, AreImplied, IsUnder, AreProblemKeys, AddsImplied, IsImpliedAt, IsFalseKey}
-use Rattle.gi_scopes.proofs.Fronts.{place_in_take, front_contains}
+use Rattle.gi_scopes.specs.Under.{base_of, IsReached, AreReached, AreProblemKeys, AddsImplied, IsImpliedAt, IsFalseKey}
+use Rattle.gi_scopes.proofs.Base.{base_holds, holds_full, full_holds, live_clause, clause_live, same_full, keys_base}
 
 -- the key at a place
 place_is : (xs : List ℕ) (i : ℕ) → at_place xs (i + 1) ≡ slice_get xs i
@@ -50,60 +49,12 @@ key_there xs i lt e = go (slice_get_cases xs i)
     ]
 
 module _ (s : Held) where
-  problem_count : length (full (problem_of s)) ≡ length s.plain + length s.pairs
-  unfolding full
-  problem_count = simp (length-append, length-map)
-
-  lits_at : (i : ℕ) → i < length s.plain + length s.pairs → (e : Entry) → get_or (map (λ (e : Entry). e.lits) (entries s)) i [] ≡ get_or (full (problem_of s)) i []
-  lits_at i lt e = ap (λ xs. get_or xs i []) (entries_are s) ∙ get_or_append_left (full (problem_of s)) (known_of s) [] i (omega (arith, problem_count))
-
-  all_count : length (full (problem_of s)) + length (known_of s) ≡ length (entries s)
-  all_count = sym (length-append (full (problem_of s)) (known_of s)) ∙ ap length (sym (entries_are s)) ∙ length-map (entries s) (λ (e : Entry). e.lits)
-
   pub keys_count : length (keys_of s) ≡ length (entries s)
   keys_count = length-map (entries s) (λ (e : Entry). e.key)
 
-  pub enough_keys : length s.plain + length s.pairs ≤ length (keys_of s)
-  enough_keys = omega (arith, all_count, problem_count, keys_count)
-
-  no_entry : Entry
-  no_entry = record { key = 0; lits = [] }
-
-  -- the clause at a place below the count of the problem's
-  clause_there : (i : ℕ) → i < length s.plain + length s.pairs → Contains (full (problem_of s)) (get_or (entries s) i no_entry).lits
-  clause_there i lt =
-      let e : get_or (full (problem_of s)) i [] ≡ (get_or (entries s) i no_entry).lits = sym (lits_at i lt no_entry) ∙ get_or-map (λ (e : Entry). e.lits) (entries s) i no_entry [] (omega (arith, all_count, problem_count)) in
-      subst (Contains (full (problem_of s))) e (Contains-get_or (full (problem_of s)) i [] (omega (arith, problem_count)))
-
-  key_at_place : (i : ℕ) → i < length s.plain + length s.pairs → get_or (keys_of s) i 0 ≡ (get_or (entries s) i no_entry).key
-  key_at_place i lt = get_or-map (λ (e : Entry). e.key) (entries s) i no_entry 0 (omega (arith, all_count, problem_count))
-
-  pub problem_inside : IsDistinct (keys_of s) → (key : ℕ) (c : List ℕ) → Contains (take (length s.plain + length s.pairs) (keys_of s)) key → Holds s key c → Contains (full (problem_of s)) c
-  problem_inside d key c a h =
-      let q = place_in_take (length s.plain + length s.pairs) (keys_of s) key a in
-      let e : Entry = get_or (entries s) q.0 no_entry in
-      let k : e.key ≡ key = sym (key_at_place q.0 q.1) ∙ q.3 in
-      let there : Holds s key e.lits = subst (λ (n : ℕ). Contains (entries s) (record { key = n; lits = e.lits })) k (Contains-get_or (entries s) q.0 no_entry (omega (arith, q.2, keys_count))) in
-      subst (Contains (full (problem_of s))) (one_clause (entries s) d key e.lits c there h) (clause_there q.0 q.1)
-
-  pub problem_whole : (c : List ℕ) → Contains (full (problem_of s)) c → (key : ℕ) × Contains (take (length s.plain + length s.pairs) (keys_of s)) key × Holds s key c
-  problem_whole c a = (get_or (keys_of s) a.0 0, front, there)
-    where
-      lt : a.0 < length s.plain + length s.pairs
-      lt = omega (arith, a.1, problem_count)
-
-      same : (get_or (entries s) a.0 no_entry).lits ≡ c
-      same = sym (get_or-map (λ (e : Entry). e.lits) (entries s) a.0 no_entry [] (omega (arith, lt, all_count, problem_count))) ∙ lits_at a.0 lt no_entry ∙ (get_or_default (full (problem_of s)) a.0 [] c a.1 ∙ a.2)
-
-      front : Contains (take (length s.plain + length s.pairs) (keys_of s)) (get_or (keys_of s) a.0 0)
-      front = front_contains (length s.plain + length s.pairs) (keys_of s) a.0 lt (omega (arith, lt, enough_keys))
-
-      there : Holds s (get_or (keys_of s) a.0 0) c
-      there =
-          let e : Entry = get_or (entries s) a.0 no_entry in
-          let at : Contains (entries s) (record { key = e.key; lits = e.lits }) = Contains-get_or (entries s) a.0 no_entry (omega (arith, lt, all_count, problem_count)) in
-          let b : Contains (entries s) (record { key = get_or (keys_of s) a.0 0; lits = e.lits }) = subst (λ (n : ℕ). Contains (entries s) (record { key = n; lits = e.lits })) (sym (key_at_place a.0 lt)) at in
-          subst (λ (x : List ℕ). Contains (entries s) (record { key = get_or (keys_of s) a.0 0; lits = x })) same b
+  -- a key with a clause is in use
+  pub held_live : (key : ℕ) (c : List ℕ) → Holds s key c → IsLive s key
+  held_live key c h = (h.0, rw length-map h.1, get_or-map (λ (x : Entry). x.key) (entries s) h.0 (record { key = key; lits = c }) key h.1 ∙ ap (λ (x : Entry). x.key) h.2)
 
   -- each stored clause is of variables of the store
   pub holds_within : IsWhole s → (key : ℕ) (c : List ℕ) → Holds s key c → (n : ℕ) → s.vars ≤ n → IsWithin n c
@@ -153,34 +104,51 @@ module _ (s : Held) where
       next : take (i + 1) (keys_of s) ≡ take i (keys_of s) ++ key ∷ []
       next = take_more (keys_of s) i 0 lt ∙ ap (λ x. take i (keys_of s) ++ x ∷ []) e
 
-  pub attached_all : IsDistinct (keys_of s) → (t : Assigned) (a : Attached) (i : ℕ) → i ≡ length s.plain + length s.pairs → IsAttaching t a i → AreProblemKeys a s
-  attached_all d t a i e h = record {
-    inside = λ key c at held. problem_inside d key c (subst (λ n. Contains (take n (keys_of s)) key) e (h.inside key at)) held;
-    whole = λ c x. let r = problem_whole c x in (r.0, h.whole r.0 (subst (λ n. Contains (take n (keys_of s)) r.0) (sym e) r.1), r.2);
+  pub attached_all : (t : Assigned) (a : Attached) (i : ℕ) → i ≡ length s.plain + length s.groups → IsAttaching t a i → AreProblemKeys a (base_of s)
+  attached_all t a i e h = record {
+    inside = λ key at. live_clause s key (subst (λ (ks : List ℕ). Contains ks key) front (h.inside key at));
+    whole = λ key c held. h.whole key (subst (λ (ks : List ℕ). Contains ks key) (sym front) (clause_live s key c held));
   }
+    where
+      front : take i (keys_of s) ≡ keys_of (base_of s)
+      front = ap (λ n. take n (keys_of s)) e ∙ keys_base s
 
   -- what propagation leaves, where the problem's keys are attached
-  module _ (a b : Attached) (keys : AreProblemKeys a s) (same : HasSameKeys a b) where
-    key_inside : (key : ℕ) (c : List ℕ) → IsAttached b key → Holds s key c → Contains (full (problem_of s)) c
-    key_inside key c at held = keys.inside key c (same.others key at) held
+  module _ (d : IsDistinct (keys_of s)) (a : Attached) (keys : AreProblemKeys a (base_of s)) where
+    base_clause : (key : ℕ) (c : List ℕ) → IsAttached a key → Holds s key c → Holds (base_of s) key c
+    base_clause key c at h = let q = keys.inside key at in subst (Holds (base_of s) key) (one_clause (entries s) d key q.0 c (base_holds s key q.0 q.1) h) q.1
 
-    pub adds_implied : (old new : Assigned) → AddsForced b s old new → AddsImplied s old new
+    pub adds_implied : (old new : Assigned) → AddsForced a s old new → AddsImplied (base_of s) old new
     adds_implied old new f = record {
       vars = f.vars;
+      marks = f.marks;
       more = f.more;
       lits = f.lits;
-      each = λ k le lt. let x = f.each k le lt in record { key = x.key; reason = x.reason; clause = x.clause; held = x.held; stands = key_inside x.key x.clause x.attached x.held; forces = x.forces };
+      why = f.why;
+      reasons = f.reasons;
+      each = λ k le lt. let x = f.each k le lt in record { key = x.key; reason = x.reason; clause = x.clause; held = base_clause x.key x.clause x.attached x.held; forces = x.forces };
     }
 
-    pub settled_closed : (lits : List ℕ) → AreSettled b s lits → IsClosed (full (problem_of s)) lits
-    settled_closed lits h = record { each = λ k d lt. let x : List ℕ = get_or (full (problem_of s)) k d in let r = keys.whole x (Contains-get_or (full (problem_of s)) k d lt) in h.each r.0 x (same.kept r.0 r.1) r.2 }
+    pub settled_closed : (lits : List ℕ) → AreSettled a s lits → IsClosed (full (problem_of (base_of s))) lits
+    settled_closed lits h = record { each = λ k x lt. let c : List ℕ = get_or (full (problem_of (base_of s))) k x in let r = full_holds s c (Contains-get_or (full (problem_of (base_of s))) k x lt) in h.each r.0 c (keys.whole r.0 c r.1) (base_holds s r.0 c r.1) }
 
-    pub conflict_false : (lits : List ℕ) (key : ℕ) → IsConflict b s lits key → IsFalseKey s lits key
-    conflict_false lits key h = record { clause = h.clause; held = h.held; stands = key_inside key h.clause h.attached h.held; falsified = h.falsified }
+    pub conflict_false : (lits : List ℕ) (key : ℕ) → IsConflict a s lits key → IsFalseKey s lits key
+    conflict_false lits key h = record {
+      clause = h.clause;
+      held = h.held;
+      stands = subst (λ (cs : List (List ℕ)). Contains cs h.clause) (same_full s) (holds_full s key h.clause (base_clause key h.clause h.attached h.held));
+      falsified = h.falsified;
+    }
 
--- a key with a clause is in use
-pub held_live : (s : Held) (key : ℕ) (c : List ℕ) → Holds s key c → IsLive s key
-held_live s key c h = (h.0, rw length-map h.1, get_or-map (λ (x : Entry). x.key) (entries s) h.0 (record { key = key; lits = c }) key h.1 ∙ ap (λ (x : Entry). x.key) h.2)
+    pub attached_live : (key : ℕ) → IsAttached a key → IsLive s key
+    attached_live key at = let q = keys.inside key at in held_live key q.0 (base_holds s key q.0 q.1)
+
+    pub attached_base : (key : ℕ) → IsAttached a key → IsLive (base_of s) key
+    attached_base key at = let q = keys.inside key at in clause_live s key q.0 q.1
+
+-- the same keys
+pub same_problem : (s : Held) (a b : Attached) → AreProblemKeys a s → HasSameKeys a b → AreProblemKeys b s
+same_problem s a b k same = record { inside = λ key at. k.inside key (same.others key at); whole = λ key c h. same.kept key (k.whole key c h) }
 
 -- the reason that is looked up is the key
 pub reason_key : (s : Held) (t : Assigned) (at v : ℕ) (r : Option ℕ) (h : IsImpliedAt s t at) → at < length t.lits → v ≡ get_or t.lits at 0 / 2 → ((q : ℕ) → StandsAt t.lits v q → r ≡ get_or t.reasons q None) → r ≡ Some h.key
@@ -193,26 +161,23 @@ same_some a b e = cc
 pub item_is : (xs ys : List ℕ) (i x : ℕ) → i < length ys → xs ≡ ys → x ≡ get_or xs i x → x ≡ get_or ys i 0
 item_is xs ys i x lt e is = get_or_read ys i x lt (subst (λ (zs : List ℕ). x ≡ get_or zs i x) e is) 0
 
--- behind assumptions that were made true
-pub under_of : (s : Held) (given : List ℕ) (old new : Assigned) → All (Contains given) old.lits → All (Contains old.lits) given → AddsImplied s old new → IsUnder (problem_of s) given (length old.lits) new.lits
-under_of s given old new inside whole a = record {
-  start = omega (arith, ap length a.lits, length-append old.lits a.more);
-  assumed = subst (All (Contains given)) (sym front) inside;
-  whole = subst (λ xs. All (Contains xs) given) (sym front) whole;
-  forced = λ k le lt. let h = a.each k le lt in (h.clause, h.stands, h.forces);
-}
+-- a trail that was reached under assumptions is a derivation from them
+pub under_of : (s : Held) (given : List ℕ) (t : Assigned) → AreReached (base_of s) given t (length t.lits) → IsDerivation (full (problem_of s)) given t.lits
+under_of s given t r = record { each = λ k lt. step k (r.each k lt) }
   where
-    front : take (length old.lits) new.lits ≡ old.lits
-    front = ap (take (length old.lits)) a.lits ∙ take_at old.lits a.more (length old.lits) refl
+    step : (k : ℕ) → IsReached (base_of s) given t k → IsStep (full (problem_of s)) given (take k t.lits) (get_or t.lits k 0)
+    step k (inl a) = inl a.1
+    step k (inr h) = inr (h.clause, subst (λ (cs : List (List ℕ)). Contains cs h.clause) (same_full s) (holds_full s h.key h.clause h.held), h.forces)
 
--- what is said of an option, weakened
-pub none_weaker : (P Q : Type 0) (o : Option ℕ) → (P → Q) → IfNone o P → IfNone o Q
-none_weaker P Q (Some x) f h = tt
-none_weaker P Q None f h = f h
+pub reason_none : (key : ℕ) → ¬ (None ≡ Some key)
+reason_none key e = cc
 
-pub some_weaker : (P Q : ℕ → Type 0) (o : Option ℕ) → ((x : ℕ) → P x → Q x) → IfSome o P → IfSome o Q
-some_weaker P Q (Some x) f h = f x h
-some_weaker P Q None f h = tt
+-- what has a reason was forced
+pub implied_here : (s : Held) (given : List ℕ) (t : Assigned) (at v : ℕ) (r : Option ℕ) (key : ℕ) → r ≡ Some key → at < length t.lits → v ≡ get_or t.lits at 0 / 2 → ((q : ℕ) → StandsAt t.lits v q → r ≡ get_or t.reasons q None) → IsReached s given t at → IsImpliedAt s t at
+implied_here s given t at v r key some lt e told (inl a) = absurd (reason_none key (sym (told at (record { below = lt; names = sym e }) ∙ a.0) ∙ some))
+implied_here s given t at v r key some lt e told (inr h) = h
 
-pub forced_of : (s : Held) (t : Assigned) (base : ℕ) → AreImplied s base t → AreForced (problem_of s) base t.lits
-forced_of s t base a k le lt = let h = a k le lt in (h.clause, h.stands, h.forces)
+-- and what is no assumption was too
+pub implied_new : (s : Held) (given : List ℕ) (t : Assigned) (at : ℕ) → ¬ Contains given (get_or t.lits at 0) → IsReached s given t at → IsImpliedAt s t at
+implied_new s given t at n (inl a) = absurd (n a.1)
+implied_new s given t at n (inr h) = h

@@ -54,5 +54,5 @@ module _ (scs : List Scope) (w : List ℕ) (h : HasFailing scs w) where
 
 -- what unit closure under all assumptions finds is what a test finds, where no open scope has failed
 pub finds_of : (p : Problem) (scs : List Scope) (assumed : List ℕ) (o : Outcome) → ¬ SomeFailed scs → Closes p (scope_assumed scs ++ assumed) (scope_listed scs) o → Finds p scs assumed o
-finds_of p scs assumed (Listed i) none h = ((λ m. elim m [ inl c ↦ h.0 c | inr f ↦ none f ], h.1), h.2)
+finds_of p scs assumed (Listed i k) none h = ((λ m. elim m [ inl c ↦ h.0 c | inr f ↦ none f ], h.1), h.2)
 finds_of p scs assumed (Failing w) none h = (inl h.0, h.1, h.2)

@@ -5,7 +5,13 @@ pub mod Tracing
 pub mod Attaching
 pub mod Noting
 pub mod Assuming
+pub mod Base
+pub mod Few
+pub mod Covering
+pub mod Closed
+pub mod Leveling
 pub mod Opening
 pub mod Failing
 pub mod Placing
 pub mod Ready
+pub mod Bare

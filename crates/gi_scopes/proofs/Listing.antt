@@ -9,7 +9,7 @@ use Rattle.gi_lit.specs.Problem.{Problem, has}
 use Rattle.gi_lit.proofs.Vars.{has-from_Contains}
 use Rattle.gi_model.specs.State.{Scope, listed_in, scope_assumed, scope_listed}
 use Rattle.gi_model.specs.Tests.{before}
-use Rattle.gi_scopes.specs.Open.{AreReasoned, IsReasoned}
+use Rattle.gi_scopes.specs.Open.{AreExplained, IsReasoned}
 use Rattle.gi_scopes.specs.Kept.{AreChosen, IsOpen}
 
 pub scope_assumed-append : (xs ys : List Scope) → scope_assumed (xs ++ ys) ≡ scope_assumed xs ++ scope_assumed ys
@@ -104,7 +104,7 @@ module _ (scs : List Scope) (rss : List (List ℕ)) (n : ℕ) where
     };
   }
 
-  pub reasoned_less : (p : Problem) → AreReasoned p (record { scopes = scs; reasons = rss }) → AreReasoned p (record { scopes = take n scs; reasons = take (length (scope_listed (take n scs))) rss })
+  pub reasoned_less : (p : Problem) → AreExplained p scs rss → AreExplained p (take n scs) (take (length (scope_listed (take n scs))) rss)
   reasoned_less p h = record {
     count = length-take-le (length (scope_listed (take n scs))) rss (omega (arith, enough, h.count));
     each = λ k lt.

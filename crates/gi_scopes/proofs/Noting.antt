@@ -1,25 +1,29 @@
 -- The reasons of one literal, marks of literals that are listed, and the list with its reasons as it grows.
-use Rattle.std.proofs.Common.{◌≡◌, ◌≢◌, ℕ, ◌+◌, ◌*◌, ◌/◌, ◌<◌, ◌≤◌, Bool, true, false, ◌||◌, nat_eq, List, [], ◌∷◌, ◌++◌, length, take, get_or, set, replicate, refl, sym, ap, ◌∙◌, subst, arith, ◌⊎◌, inl, inr, append_assoc, length-append, length-set, get_or-set_same, get_or-set_other}
+use Rattle.std.proofs.Common.{◌≡◌, ◌≢◌, ℕ, ◌+◌, ◌-◌, ◌*◌, ◌/◌, ◌<◌, ◌≤◌, Bool, true, false, ◌||◌, nat_eq, List, [], ◌∷◌, ◌++◌, length, take, get_or, set, replicate, refl, sym, ap, ◌∙◌, subst, arith, ◌⊎◌, inl, inr, append_assoc, length-append, length-set, get_or-set_same, get_or-set_other}
 use Rattle.std.specs.List.{All, Contains}
 use Rattle.std.proofs.lemmas.Bool.{cases_lt, cases_eq, ne_eqb, false≢true}
-use Rattle.std.proofs.lemmas.List.{take_more, take_at, take-append-le, get_or_append_left, get_or_push, get_or-replicate, length-replicate, get_or_past, take_all}
-use Rattle.std.proofs.lemmas.List.Elements.{All-nil, All-push, All-weaker, All-contains, All-contains_itself, All-more, Contains-get_or, Contains-append_left, Contains-append_right, Contains-append_cases, Contains-push, Contains-push_cases}
+use Rattle.std.proofs.lemmas.List.{append-nil, take_more, take_at, take-append-le, get_or_append_left, get_or_push, get_or-replicate, length-replicate, get_or_past, take_all}
+use Rattle.std.proofs.lemmas.List.Elements.{All-nil, All-push, All-weaker, All-contains, All-contains_itself, All-more, Contains-get_or, Contains-append_left, Contains-push, Contains-push_cases}
 use Rattle.std.proofs.lemmas.List.Folds.{list_any-append}
 use Rattle.gi_lit.specs.Literals.{opposite}
-use Rattle.gi_lit.specs.Problem.{Problem, has, IsWellFormed, IsProblemVar}
+use Rattle.gi_lit.specs.Closure.{IsDerivation}
+use Rattle.gi_lit.specs.Problem.{Problem, full, has, IsWellFormed, IsProblemVar}
 use Rattle.gi_lit.proofs.Literals.{var-opposite}
 use Rattle.gi_lit.proofs.Agreeing.{opposite-odd}
 use Rattle.gi_lit.proofs.Distinct.{IsDistinct-push}
+use Rattle.gi_lit.specs.Guards.{IsGuardedLit}
+use Rattle.gi_lit.proofs.Resting.{problem_or_guard}
 use Rattle.gi_lit.proofs.Vars.{Contains-from_has, has-from_Contains, lacks_none}
 use Rattle.gi_store.specs.Held.{Held, problem_of}
 use Rattle.gi_prop.specs.Assigned.{Assigned}
 use Rattle.gi_model.specs.State.{Scope, listed_in, scope_listed}
 use Rattle.gi_scopes.specs.Open.{IsReasoned}
-use Rattle.gi_scopes.specs.Under.{AreForced, IsUnder, IsImpliedAt}
-use Rattle.gi_scopes.specs.Listing.{AreOthers, AreNoted, Notes, MarksToo, AreMarks, IsListing}
+use Rattle.gi_scopes.specs.Under.{base_of, IsImpliedAt}
+use Rattle.gi_scopes.specs.Listing.{AreOthers, AreNoted, Notes, MarksPlaces, ArePlaces, AreBehind, AreKnown, IsListing}
+use Rattle.gi_scopes.proofs.Base.{same_full, holds_full}
 use Rattle.gi_scopes.proofs.Fronts.{place_in_take, Contains-take}
 use Rattle.gi_scopes.proofs.Listing.{scope_listed-more}
-use Rattle.gi_scopes.proofs.Shadowing.{problem_or_guard, full_lit, guard_given}
+use Rattle.gi_scopes.proofs.Shadowing.{full_lit, guard_given}
 
 -- one literal is m itself, or noted already
 pub notes_none : (m l : ℕ) (rs : List ℕ) → (l ≢ m → Contains rs (opposite l)) → Notes m l rs rs
@@ -55,8 +59,8 @@ others_more clause m i x old new lt item h n = record {
     next = take_more clause i x lt ∙ ap (λ y. take i clause ++ y ∷ []) (sym item)
 
 -- the reasons of a literal that a clause forced
-pub reasoned_of : (s : Held) (t : Assigned) (at : ℕ) (h : IsImpliedAt s t at) (rs : List ℕ) → AreOthers h.clause (get_or t.lits at 0) rs → IsReasoned (problem_of s) (get_or t.lits at 0) rs
-reasoned_of s t at h rs o = record { clause = h.clause; stands = h.stands; holds = h.forces.stands; others = o.others; distinct = o.distinct }
+pub reasoned_of : (s : Held) (t : Assigned) (at : ℕ) (h : IsImpliedAt (base_of s) t at) (rs : List ℕ) → AreOthers h.clause (get_or t.lits at 0) rs → IsReasoned (problem_of s) (get_or t.lits at 0) rs
+reasoned_of s t at h rs o = record { clause = h.clause; stands = subst (λ (cs : List (List ℕ)). Contains cs h.clause) (same_full s) (holds_full s h.key h.clause h.held); holds = h.forces.stands; others = o.others; distinct = o.distinct }
 
 pub before_of : (s : Held) (t : Assigned) (at : ℕ) (h : IsImpliedAt s t at) (rs : List ℕ) → AreOthers h.clause (get_or t.lits at 0) rs → All (Contains (take at t.lits)) rs
 before_of s t at h rs o k d lt =
@@ -90,6 +94,9 @@ noted_push codes marks y h within = record {
 
 pub noted_none : (n : ℕ) (marks : List Bool) → marks ≡ replicate n false → AreNoted [] marks
 noted_none n marks e = record { each = λ x lt. ap (λ ms. get_or ms x false) e ∙ get_or-replicate n x false false (omega (arith, lt, ap length e, length-replicate n false)) }
+
+pub noted_nothing : AreNoted [] []
+noted_nothing = record { each = λ x lt. absurd (omega (arith, lt)) }
 
 -- the marks that are left once the first codes are unmarked
 pub record UnmarkedTo (codes : List ℕ) (i : ℕ) (marks : List Bool) : Type 0 where
@@ -140,77 +147,103 @@ pub record ListingTo (p : Problem) (given earlier lits ls : List ℕ) (rss : Lis
   pub marked : AreNoted [] marks
   pub same : length marks ≡ count
 
-pub marks_none : (old : List Bool) → MarksToo [] old old
-marks_none old = record { count = refl; each = λ x lt. refl }
+pub marks_none : (all : List ℕ) (from : ℕ) (old : List Bool) → MarksPlaces all from [] old old
+marks_none all from old = record { count = refl; each = λ k kl. refl }
 
-module _ (lits : List ℕ) (i y : ℕ) (lt : i < length lits) (item : y ≡ get_or lits i y) (old new : List Bool) (h : MarksToo (take i lits) old new) where
-  upto : take (i + 1) lits ≡ take i lits ++ y ∷ []
-  upto = take_more lits i y lt ∙ ap (λ z. take i lits ++ z ∷ []) (sym item)
+or_swap : (a b c : Bool) → (b || (a || c)) ≡ ((a || b) || c)
+or_swap true true c = refl
+or_swap true false c = refl
+or_swap false true c = refl
+or_swap false false c = refl
 
-  other_mark : (x : ℕ) → x < length old → x ≢ y → get_or new x false ≡ (has (take (i + 1) lits) x || get_or old x false)
-  other_mark x xl ne = h.each x xl ∙ ap (λ b. b || get_or old x false) (sym (ap (λ xs. has xs x) upto ∙ has-push_other (take i lits) y x ne))
-
-  pub marks_skip : length new ≤ y → MarksToo (take (i + 1) lits) old new
-  marks_skip le = record { count = h.count; each = λ x xl. other_mark x xl (λ e. absurd (omega (arith, h.count, e, xl, le))) }
-
-  pub marks_set : y < length new → MarksToo (take (i + 1) lits) old (set new y true)
-  marks_set within = record {
-    count = length-set new y true ∙ h.count;
-    each = λ x xl. elim (cases_eq x y) [
-      | inl same ↦
-          let a : get_or (set new y true) x false ≡ true = rw same (get_or-set_same new y true false within) in
-          let b : has (take (i + 1) lits) x ≡ true = has-from_Contains (take (i + 1) lits) x (subst (λ xs. Contains xs x) (sym upto) (subst (Contains (take i lits ++ y ∷ [])) (sym same) (Contains-push (take i lits) y))) in
-          a ∙ ap (λ c. c || get_or old x false) (sym b)
-      | inr ne ↦ get_or-set_other new y x true false ne ∙ other_mark x xl ne
-    ];
-  }
-
-pub are_marks_none : (n : ℕ) (marks : List Bool) → marks ≡ replicate (2 * n + 2) false → AreMarks n [] marks
-are_marks_none n marks e = record {
-  count = ap length e ∙ length-replicate (2 * n + 2) false;
-  each = λ x lt. ap (λ ms. get_or ms x false) e ∙ get_or-replicate (2 * n + 2) x false false lt;
+-- one list's marks, then another's
+pub marks_join : (all : List ℕ) (from : ℕ) (xs ys : List ℕ) (old mid new : List Bool) → MarksPlaces all from xs old mid → MarksPlaces all from ys mid new → MarksPlaces all from (xs ++ ys) old new
+marks_join all from xs ys old mid new f g = record {
+  count = g.count ∙ f.count;
+  each = λ k kl.
+      let x : ℕ = get_or all (from + k) 0 in
+      g.each k (omega (arith, kl, f.count)) ∙ ap (λ b. has ys (get_or all (from + k) 0) || b) (f.each k kl) ∙ or_swap (has xs (get_or all (from + k) 0)) (has ys (get_or all (from + k) 0)) (get_or old k false) ∙ ap (λ b. b || get_or old k false) (sym (list_any-append (nat_eq (get_or all (from + k) 0)) xs ys));
 }
 
-pub are_marks_more : (n : ℕ) (scs : List Scope) (i : ℕ) (sc : Scope) (old new : List Bool) → i < length scs → sc ≡ get_or scs i sc → AreMarks n (scope_listed (take i scs)) old → MarksToo (listed_in sc.found) old new → AreMarks n (scope_listed (take (i + 1) scs)) new
-are_marks_more n scs i sc old new lt item h m = record {
-  count = m.count ∙ h.count;
-  each = λ x xl.
-      let whole : has (scope_listed (take (i + 1) scs)) x ≡ (has (scope_listed (take i scs)) x || has (listed_in sc.found) x) = ap (λ ls. has ls x) (scope_listed-more scs i sc lt item) ∙ list_any-append (nat_eq x) (scope_listed (take i scs)) (listed_in sc.found) in
-      m.each x (omega (arith, h.count, xl)) ∙ ap (λ b. has (listed_in sc.found) x || b) (h.each x xl) ∙ or_comm (has (listed_in sc.found) x) (has (scope_listed (take i scs)) x) ∙ sym whole;
+pub marks_more : (all : List ℕ) (from : ℕ) (lits : List ℕ) (i y : ℕ) → i < length lits → y ≡ get_or lits i y → (old mid new : List Bool) → MarksPlaces all from (take i lits) old mid → MarksPlaces all from (y ∷ []) mid new → MarksPlaces all from (take (i + 1) lits) old new
+marks_more all from lits i y lt item old mid new f g = subst (λ xs. MarksPlaces all from xs old new) (sym (take_more lits i y lt ∙ ap (λ z. take i lits ++ z ∷ []) (sym item))) (marks_join all from (take i lits) (y ∷ []) old mid new f g)
+
+no_scopes : scope_listed [] ≡ []
+unfolding scope_listed
+no_scopes = refl
+
+-- a list alone, with no scope
+pub places_alone : (all : List ℕ) (from : ℕ) (lits : List ℕ) (marks : List Bool) → ArePlaces all from (lits ++ scope_listed []) marks → ArePlaces all from lits marks
+places_alone all from lits marks h = subst (λ xs. ArePlaces all from xs marks) (ap (λ xs. lits ++ xs) no_scopes ∙ append-nil lits) h
+
+-- the mark of a place
+pub place_mark : (all : List ℕ) (from : ℕ) (known : List ℕ) (marks : List Bool) → ArePlaces all from known marks → (at : ℕ) → from ≤ at → at < length all → get_or marks (at - from) false ≡ has known (get_or all at 0)
+place_mark all from known marks h at le lt = h.each (at - from) (omega (arith, h.count, le, lt)) ∙ ap (λ n. has known (get_or all n 0)) (let z : from + (at - from) ≡ at = omega (arith, le) in z)
+
+-- with no mark yet
+pub places_none : (all : List ℕ) (from n : ℕ) (marks : List Bool) → marks ≡ replicate n false → length all ≡ from + n → ArePlaces all from [] marks
+places_none all from n marks e count = record {
+  count = count ∙ ap (λ m. from + m) (sym (ap length e ∙ length-replicate n false));
+  each = λ k kl. ap (λ ms. get_or ms k false) e ∙ get_or-replicate n k false false (omega (arith, kl, ap length e, length-replicate n false));
 }
+
+-- with a list's marks too
+pub places_more : (all : List ℕ) (from : ℕ) (known xs : List ℕ) (old new : List Bool) → ArePlaces all from known old → MarksPlaces all from xs old new → ArePlaces all from (known ++ xs) new
+places_more all from known xs old new h m = record {
+  count = h.count ∙ ap (λ n. from + n) (sym m.count);
+  each = λ k kl.
+      let old_kl : k < length old = omega (arith, kl, m.count) in
+      m.each k old_kl ∙ ap (λ b. has xs (get_or all (from + k) 0) || b) (h.each k old_kl) ∙ or_comm (has xs (get_or all (from + k) 0)) (has known (get_or all (from + k) 0)) ∙ sym (list_any-append (nat_eq (get_or all (from + k) 0)) known xs);
+}
+
+-- and with those that one scope more lists
+pub places_scope : (all : List ℕ) (from : ℕ) (scs : List Scope) (i : ℕ) (sc : Scope) (old new : List Bool) → i < length scs → sc ≡ get_or scs i sc → ArePlaces all from (scope_listed (take i scs)) old → MarksPlaces all from (listed_in sc.found) old new → ArePlaces all from (scope_listed (take (i + 1) scs)) new
+places_scope all from scs i sc old new lt item h m =
+    subst (λ xs. ArePlaces all from xs new) (sym (scope_listed-more scs i sc lt item))
+    (places_more all from (scope_listed (take i scs)) (listed_in sc.found) old new h m)
+
+-- in whatever order
+pub places_turned : (all : List ℕ) (from : ℕ) (xs ys : List ℕ) (marks : List Bool) → ArePlaces all from (xs ++ ys) marks → ArePlaces all from (ys ++ xs) marks
+places_turned all from xs ys marks h = record {
+  count = h.count;
+  each = λ k kl.
+      let x : ℕ = get_or all (from + k) 0 in
+      h.each k kl ∙ list_any-append (nat_eq (get_or all (from + k) 0)) xs ys ∙ or_comm (has xs (get_or all (from + k) 0)) (has ys (get_or all (from + k) 0)) ∙ sym (list_any-append (nat_eq (get_or all (from + k) 0)) ys xs);
+}
+
+-- those of another list, where from the place on the same literals stand in both
+pub places_behind : (all : List ℕ) (from : ℕ) (lits known : List ℕ) (marks : List Bool) → AreBehind all from lits known → ArePlaces all from lits marks → ArePlaces all from known marks
+places_behind all from lits known marks b h = record { count = h.count; each = λ k kl. h.each k kl ∙ sym (b.each (from + k) (omega arith) (omega (arith, h.count, kl))) }
 
 regroup : (a b c d : List ℕ) → a ++ (b ++ (c ++ d)) ≡ (a ++ (b ++ c)) ++ d
 regroup a b c d = sym (append_assoc a (b ++ c) d ∙ ap (λ t. a ++ t) (append_assoc b c d))
 
-module _ (p : Problem) (w : IsWellFormed p) (base : ℕ) (lits : List ℕ) (start : base ≤ length lits) (forced : AreForced p base lits) (apart : (i j : ℕ) → i < length lits → j < length lits → get_or lits i 0 / 2 ≡ get_or lits j 0 / 2 → i ≡ j) (earlier : List ℕ) where
-  under : IsUnder p (take base lits) base lits
-  under = record { start = start; assumed = All-contains_itself (take base lits); whole = All-contains_itself (take base lits); forced = forced }
-
-  pub listing_none : IsListing p (take base lits) earlier (take base lits) [] []
-  listing_none = record {
+module _ (p : Problem) (w : IsWellFormed p) (given lits : List ℕ) (u : IsDerivation (full p) given lits) (apart : (i j : ℕ) → i < length lits → j < length lits → get_or lits i 0 / 2 ≡ get_or lits j 0 / 2 → i ≡ j) (earlier : List ℕ) where
+  pub listing_from : (from : ℕ) → AreKnown p (given ++ earlier) (take from lits) → IsListing p given earlier (take from lits) [] []
+  listing_from from known = record {
     plain = All-nil (λ m. IsProblemVar p (m / 2));
-    new = All-nil (λ m. ¬ Contains (take base lits ++ earlier) m);
+    new = All-nil (λ m. ¬ Contains (given ++ earlier) m);
     distinct = tt;
-    inside = All-nil (Contains (take base lits));
-    covers = λ k d lt pv. Contains-append_left (take base lits) (earlier ++ []) (get_or (take base lits) k d) (Contains-get_or (take base lits) k d lt);
+    inside = All-nil (Contains (take from lits));
+    covers = All-weaker (λ m. IsProblemVar p (m / 2) → Contains (given ++ earlier) m) (λ m. IsProblemVar p (m / 2) → Contains (given ++ (earlier ++ [])) m) (λ m f pv. subst (λ xs. Contains (given ++ xs) m) (sym (append-nil earlier)) (f pv)) (take from lits) known;
     listed = record { count = refl; each = λ k lt. absurd (omega arith) };
   }
 
-  module _ (at : ℕ) (lt : at < length lits) (ls : List ℕ) (rss : List (List ℕ)) (h : IsListing p (take base lits) earlier (take at lits) ls rss) where
+  module _ (at : ℕ) (lt : at < length lits) (ls : List ℕ) (rss : List (List ℕ)) (h : IsListing p given earlier (take at lits) ls rss) where
     longer : take (at + 1) lits ≡ take at lits ++ get_or lits at 0 ∷ []
     longer = take_more lits at 0 lt
 
     inside_more : All (Contains (take (at + 1) lits)) ls
     inside_more = All-weaker (Contains (take at lits)) (Contains (take (at + 1) lits)) (λ m c. subst (λ xs. Contains xs m) (sym longer) (Contains-append_left (take at lits) (get_or lits at 0 ∷ []) m c)) ls h.inside
 
-    pub listing_skip : (IsProblemVar p (get_or lits at 0 / 2) → has earlier (get_or lits at 0) ≡ true) → IsListing p (take base lits) earlier (take (at + 1) lits) ls rss
+    pub listing_skip : (IsProblemVar p (get_or lits at 0 / 2) → has (given ++ earlier) (get_or lits at 0) ≡ true) → IsListing p given earlier (take (at + 1) lits) ls rss
     listing_skip old = record {
       plain = h.plain;
       new = h.new;
       distinct = h.distinct;
       inside = inside_more;
-      covers = All-more (λ m. IsProblemVar p (m / 2) → Contains (take base lits ++ (earlier ++ ls)) m) lits at 0 lt h.covers
-          (λ pv. Contains-append_right (take base lits) (earlier ++ ls) (get_or lits at 0) (Contains-append_left earlier ls (get_or lits at 0) (Contains-from_has earlier (get_or lits at 0) (old pv))));
+      covers = All-more (λ m. IsProblemVar p (m / 2) → Contains (given ++ (earlier ++ ls)) m) lits at 0 lt h.covers
+          (λ pv. subst (λ xs. Contains xs (get_or lits at 0)) (append_assoc given earlier ls) (Contains-append_left (given ++ earlier) ls (get_or lits at 0) (Contains-from_has (given ++ earlier) (get_or lits at 0) (old pv))));
       listed = h.listed;
     }
 
@@ -218,40 +251,40 @@ module _ (p : Problem) (w : IsWellFormed p) (base : ℕ) (lits : List ℕ) (star
     not_before : (n : ℕ) → n ≤ at → ¬ Contains (take n lits) (get_or lits at 0)
     not_before n le c = let q = place_in_take n lits (get_or lits at 0) c in let e : q.0 ≡ at = apart q.0 at q.2 lt (ap (λ m. m / 2) q.3) in omega (arith, e, q.1, le)
 
-    pub listing_push : base ≤ at → IsProblemVar p (get_or lits at 0 / 2) → has earlier (get_or lits at 0) ≡ false → (rs : List ℕ) → IsReasoned p (get_or lits at 0) rs → All (Contains (take at lits)) rs → IsListing p (take base lits) earlier (take (at + 1) lits) (ls ++ get_or lits at 0 ∷ []) (rss ++ rs ∷ [])
-    listing_push high pv unlisted rs r before = record {
+    pub listing_push : IsProblemVar p (get_or lits at 0 / 2) → has (given ++ earlier) (get_or lits at 0) ≡ false → (rs : List ℕ) → IsReasoned p (get_or lits at 0) rs → All (Contains (take at lits)) rs → IsListing p given earlier (take (at + 1) lits) (ls ++ get_or lits at 0 ∷ []) (rss ++ rs ∷ [])
+    listing_push pv unlisted rs r before = record {
       plain = All-push (λ m. IsProblemVar p (m / 2)) ls (get_or lits at 0) h.plain pv;
-      new = All-push (λ m. ¬ Contains (take base lits ++ earlier) m) ls (get_or lits at 0) h.new (λ c. elim (Contains-append_cases (take base lits) earlier (get_or lits at 0) c) [
-        | inl a ↦ not_before base high a
-        | inr b ↦ lacks_none earlier (get_or lits at 0) unlisted b
-      ]);
+      new = All-push (λ m. ¬ Contains (given ++ earlier) m) ls (get_or lits at 0) h.new (lacks_none (given ++ earlier) (get_or lits at 0) unlisted);
       distinct = IsDistinct-push ls (get_or lits at 0) (λ c. not_before at (omega arith) (All-contains (Contains (take at lits)) ls (get_or lits at 0) h.inside c)) h.distinct;
       inside = All-push (Contains (take (at + 1) lits)) ls (get_or lits at 0) inside_more (subst (λ xs. Contains xs (get_or lits at 0)) (sym longer) (Contains-push (take at lits) (get_or lits at 0)));
-      covers = All-more (λ m. IsProblemVar p (m / 2) → Contains (take base lits ++ (earlier ++ (ls ++ get_or lits at 0 ∷ []))) m) lits at 0 lt
-          (All-weaker (λ m. IsProblemVar p (m / 2) → Contains (take base lits ++ (earlier ++ ls)) m) (λ m. IsProblemVar p (m / 2) → Contains (take base lits ++ (earlier ++ (ls ++ get_or lits at 0 ∷ []))) m) (λ m f v. rw regroup (Contains-append_left (take base lits ++ (earlier ++ ls)) (get_or lits at 0 ∷ []) m (f v))) (take at lits) h.covers)
-          (λ v. rw regroup (Contains-push (take base lits ++ (earlier ++ ls)) (get_or lits at 0)));
+      covers = All-more (λ m. IsProblemVar p (m / 2) → Contains (given ++ (earlier ++ (ls ++ get_or lits at 0 ∷ []))) m) lits at 0 lt
+          (All-weaker (λ m. IsProblemVar p (m / 2) → Contains (given ++ (earlier ++ ls)) m) (λ m. IsProblemVar p (m / 2) → Contains (given ++ (earlier ++ (ls ++ get_or lits at 0 ∷ []))) m) (λ m f v. rw regroup (Contains-append_left (given ++ (earlier ++ ls)) (get_or lits at 0 ∷ []) m (f v))) (take at lits) h.covers)
+          (λ v. rw regroup (Contains-push (given ++ (earlier ++ ls)) (get_or lits at 0)));
       listed = record {
         count = length-append rss (rs ∷ []) ∙ ap (λ n. n + 1) h.listed.count ∙ sym (length-append ls (get_or lits at 0 ∷ []));
         each = λ k kl. reasons k kl (cases_lt k (length ls));
       };
     }
       where
+        lit_of : (l : ℕ) → Contains r.clause l → IsGuardedLit p l
+        lit_of l c = full_lit p w given lits u r.clause l r.stands c
+
         -- a reason is of a problem variable, so it is there, or it is a guard that is given
-        reason : (l : ℕ) → Contains r.clause l → Contains (take at lits) (opposite l) → Contains (take base lits ++ (earlier ++ ls)) (opposite l)
-        reason l c b = elim (problem_or_guard p l (full_lit p w (take base lits) base lits under r.clause l r.stands c)) [
-          | inl v ↦ All-contains (λ m. IsProblemVar p (m / 2) → Contains (take base lits ++ (earlier ++ ls)) m) (take at lits) (opposite l) h.covers b (subst (IsProblemVar p) (sym (var-opposite l)) v)
+        reason : (l : ℕ) → Contains r.clause l → Contains (take at lits) (opposite l) → Contains (given ++ (earlier ++ ls)) (opposite l)
+        reason l c b = elim (problem_or_guard p l (lit_of l c)) [
+          | inl v ↦ All-contains (λ m. IsProblemVar p (m / 2) → Contains (given ++ (earlier ++ ls)) m) (take at lits) (opposite l) h.covers b (subst (IsProblemVar p) (sym (var-opposite l)) v)
           | inr g ↦
-              let e : opposite l ≡ 2 * g.0 = ap opposite g.2 ∙ opposite-odd g.0 in
-              Contains-append_left (take base lits) (earlier ++ ls) (opposite l) (subst (Contains (take base lits)) (sym e) (guard_given p w (take base lits) base lits under g.0 g.1 (subst (Contains lits) e (Contains-take at lits (opposite l) b))))
+              let e : opposite l ≡ 2 * (l / 2) = ap opposite ((lit_of l c).negative g) ∙ opposite-odd (l / 2) in
+              Contains-append_left given (earlier ++ ls) (opposite l) (subst (Contains given) (sym e) (guard_given p w given lits u (l / 2) g (subst (Contains lits) e (Contains-take at lits (opposite l) b))))
         ]
 
-        own : All (Contains (take base lits ++ (earlier ++ ls))) rs
+        own : All (Contains (given ++ (earlier ++ ls))) rs
         own k d kl =
             let x : ℕ = get_or rs k d in
             let o = (r.others x).0 (Contains-get_or rs k d kl) in
-            subst (Contains (take base lits ++ (earlier ++ ls))) (sym o.3) (reason o.0 o.1 (subst (Contains (take at lits)) o.3 (before k d kl)))
+            subst (Contains (given ++ (earlier ++ ls))) (sym o.3) (reason o.0 o.1 (subst (Contains (take at lits)) o.3 (before k d kl)))
 
-        reasons : (k : ℕ) → k < length (ls ++ get_or lits at 0 ∷ []) → (k < length ls) ⊎ (length ls ≤ k) → IsReasoned p (get_or (ls ++ get_or lits at 0 ∷ []) k 0) (get_or (rss ++ rs ∷ []) k []) × All (Contains (take base lits ++ (earlier ++ take k (ls ++ get_or lits at 0 ∷ [])))) (get_or (rss ++ rs ∷ []) k [])
+        reasons : (k : ℕ) → k < length (ls ++ get_or lits at 0 ∷ []) → (k < length ls) ⊎ (length ls ≤ k) → IsReasoned p (get_or (ls ++ get_or lits at 0 ∷ []) k 0) (get_or (rss ++ rs ∷ []) k []) × All (Contains (given ++ (earlier ++ take k (ls ++ get_or lits at 0 ∷ [])))) (get_or (rss ++ rs ∷ []) k [])
         reasons k kl (inl below) = rw (get_or_append_left ls (get_or lits at 0 ∷ []) 0 k below, get_or_append_left rss (rs ∷ []) [] k (omega (arith, below, h.listed.count)), take-append-le k ls (get_or lits at 0 ∷ []) (omega arith)) (h.listed.each k below)
         reasons k kl (inr high) =
             let e : length ls ≡ k = omega (arith, length-append ls (get_or lits at 0 ∷ []), kl, high) in

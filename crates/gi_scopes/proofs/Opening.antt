@@ -12,7 +12,7 @@ use Rattle.gi_lit.proofs.Vars.{has-from_Contains, lacks}
 use Rattle.gi_lit.proofs.Distinct.{IsDistinct-apart, Contains-head}
 use Rattle.gi_model.specs.State.{Scope, Found, listed, failing, listed_in, scope_assumed, scope_listed}
 use Rattle.gi_model.specs.Tests.{before, Implies}
-use Rattle.gi_scopes.specs.Open.{AreReasoned, IsReasoned}
+use Rattle.gi_scopes.specs.Open.{AreExplained, IsReasoned}
 use Rattle.gi_scopes.specs.Kept.{IsChosen, AreChosen, IsOpen}
 use Rattle.gi_scopes.specs.Listing.{AreListed}
 use Rattle.gi_scopes.proofs.Fronts.{place_in_take, front_contains}
@@ -116,7 +116,7 @@ module _ (scs : List Scope) (rss : List (List ℕ)) (h : IsOpen scs rss) (room :
       };
     }
 
-    pub reasoned_failing : (p : Problem) → AreReasoned p (record { scopes = scs; reasons = rss }) → AreReasoned p (record { scopes = scs ++ failed ∷ []; reasons = rss })
+    pub reasoned_failing : (p : Problem) → AreExplained p scs rss → AreExplained p (scs ++ failed ∷ []) rss
     reasoned_failing p a = record {
       count = a.count ∙ ap length (sym same_listed);
       each = λ k lt. subst (λ (ls : List ℕ). IsReasoned p (get_or ls k 0) (get_or rss k [])) (sym same_listed) (a.each k (omega (arith, lt, ap length same_listed)));
@@ -170,5 +170,5 @@ module _ (scs : List Scope) (rss : List (List ℕ)) (h : IsOpen scs rss) (room :
       earlier = record { count = all_count h.earlier.count; each = by_place (λ x rs. All (Contains (before (scs ++ found ∷ []) x)) rs) old_earlier new_earlier h.earlier.count };
     }
 
-    pub reasoned_listing : AreReasoned p (record { scopes = scs; reasons = rss }) → AreReasoned p (record { scopes = scs ++ found ∷ []; reasons = rss ++ more })
+    pub reasoned_listing : AreExplained p scs rss → AreExplained p (scs ++ found ∷ []) (rss ++ more)
     reasoned_listing a = record { count = all_count a.count; each = by_place (IsReasoned p) a.each (λ k lt. (l.each k lt).0) a.count }

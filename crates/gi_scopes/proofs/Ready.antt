@@ -1,15 +1,13 @@
 -- What a test asks of its caller, after a test and after scopes are closed.
 use Rattle.std.proofs.Common.{◌≡◌, ℕ, ◌/◌, ◌≤◌, List, [], ◌∷◌, ◌++◌, take, drop, get_or, sym, ap, ◌∙◌, subst}
-use Rattle.std.specs.List.{All, Contains}
+use Rattle.std.specs.List.{Contains}
 use Rattle.std.proofs.lemmas.List.{take-append-drop}
 use Rattle.std.proofs.lemmas.List.Elements.{All-append, All-push, All-take, All-contains, Contains-append_left, Contains-get_or}
 use Rattle.gi_lit.specs.Problem.{Problem}
 use Rattle.gi_store.specs.Held.{IsWithin}
 use Rattle.gi_model.specs.State.{Scope, Found, listed, failing, scope_assumed}
-use Rattle.gi_scopes.specs.Open.{Open, FoundFails, ScopeFails, StillFail}
-use Rattle.gi_scopes.specs.Answers.{Answers, Opens}
+use Rattle.gi_scopes.specs.Open.{FoundFails, ScopeFails, StillFail}
 use Rattle.gi_scopes.specs.Laws.{TestsStayReady, UntestsStayReady}
-use Rattle.gi_scopes.specs.declared.answers.Tested.{Tested}
 use Rattle.gi_scopes.specs.declared.answers.Tested.TheVariants as tested
 use Rattle.gi_scopes.proofs.Listing.{scope_assumed-append, scope_assumed-push}
 
@@ -24,7 +22,7 @@ opened_ready n p old new assumed f e fails a within still =
 pub stays_ready : TestsStayReady
 stays_ready n p old new assumed (tested.Implied ls) answers opens a within still = opened_ready n p old.scopes new.scopes assumed (listed ls) opens tt a within still
 stays_ready n p old new assumed (tested.Failed w) answers opens a within still = opened_ready n p old.scopes new.scopes assumed (failing w) opens answers.2 a within still
-stays_ready n p old new assumed tested.NoMemory answers opens a within still = subst (λ (o : Open). IsWithin n (scope_assumed o.scopes) × StillFail p o.scopes) (sym opens) (within, still)
+stays_ready n p old new assumed tested.NoMemory answers opens a within still = subst (λ (scs : List Scope). IsWithin n (scope_assumed scs) × StillFail p scs) (sym opens.0) (within, still)
 
 pub closed_ready : UntestsStayReady
 closed_ready n p scs left within still = (front, All-take (ScopeFails p) left scs still)

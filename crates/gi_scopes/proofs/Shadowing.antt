@@ -1,55 +1,33 @@
 -- From unit closure over the full clauses to unit closure over the clauses in force.
-use Rattle.std.proofs.Common.{◌≡◌, ◌≢◌, ℕ, zero, suc, ◌+◌, ◌*◌, ◌/◌, ◌<◌, ◌≤◌, Bool, true, false, cond, List, [], ◌∷◌, ◌++◌, length, take, get_or, refl, sym, ap, ◌∙◌, subst, arith, ◌⊎◌, inl, inr, add-one}
+use Rattle.std.proofs.Common.{◌≡◌, ◌≢◌, ℕ, zero, suc, ◌+◌, ◌*◌, ◌/◌, ◌<◌, ◌≤◌, Bool, true, false, List, [], ◌∷◌, ◌++◌, length, take, get_or, refl, sym, ap, ◌∙◌, subst, arith, ◌⊎◌, inl, inr, add-one}
 use Rattle.std.specs.List.{All, Contains}
 use Rattle.std.proofs.lemmas.Bool.{cases_lt, cases_eq, false≢true}
 use Rattle.std.proofs.lemmas.List.{take_all, get_or_default}
-use Rattle.std.proofs.lemmas.List.Elements.{All-append, All-cons, All-nil, All-contains, All-weaker, All-more, All-head, All-tail, Contains-append_left, Contains-append_right, Contains-append_cases, Contains-push, Contains-get_or}
+use Rattle.std.proofs.lemmas.List.Elements.{All-nil, All-contains, All-weaker, All-more, Contains-append_left, Contains-push, Contains-get_or}
 use Rattle.gi_lit.specs.Literals.{opposite}
 use Rattle.gi_lit.specs.Lists.{IsSublist}
 use Rattle.gi_lit.specs.Truth.{true_in, IsConsequence, Fail}
 use Rattle.gi_lit.specs.Closure.{Forces, IsFalsified, IsStep, IsDerivation, InClosure, Conflicts, IsConsistent, IsSettled, has_true, has_two, IsClosed}
-use Rattle.gi_lit.specs.Problem.{Pair, Problem, has, is_problem_var, forced, force, full, IsPlain, IsWellFormed, IsProblemVar}
-use Rattle.gi_lit.proofs.Literals.{var-opposite}
+use Rattle.gi_lit.specs.Problem.{Problem, is_problem_var, force, full, IsPlain, IsWellFormed, IsProblemVar}
+use Rattle.gi_lit.specs.Guards.{IsLess, IsGiven, IsAsleep, IsGuardedLit}
+use Rattle.gi_lit.proofs.Literals.{var-opposite, opposite-opposite}
 use Rattle.gi_lit.proofs.Agreeing.{opposite-odd}
 use Rattle.gi_lit.proofs.Closure.{given_derives, IsDerivation-push, derived_true, conflicts_fail}
 use Rattle.gi_lit.proofs.Closing.{closure_inside, nothing_conflicts}
 use Rattle.gi_lit.proofs.Guarding.{guards_sound}
-use Rattle.gi_lit.proofs.Vars.{var_facts, var_from, Contains-from_has, lacks_none}
+use Rattle.gi_lit.proofs.Resting.{rests}
+use Rattle.gi_lit.proofs.Vars.{var_facts}
 use Rattle.gi_store.specs.Held.{IsWithin}
-use Rattle.gi_store.specs.Laws.{IsLess, IsGiven, IsAsleep, IsGuardedLit}
-use Rattle.gi_store.proofs.Resting.{rests}
 use Rattle.gi_model.specs.Tests.{HasCause, Implies}
 use Rattle.gi_scopes.specs.Open.{IsReasoned}
-use Rattle.gi_scopes.specs.Under.{IsUnder}
-use Rattle.gi_scopes.specs.Listing.{AreListed, IsListing}
-use Rattle.gi_scopes.proofs.Fronts.{Contains-take, front_contains, sublist_has, sublist_all}
-
--- a literal that no guard's negation is, is of a problem variable
-pub problem_or_guard : (p : Problem) (l : ℕ) → IsGuardedLit p l → IsProblemVar p (l / 2) ⊎ ((g : ℕ) × Contains p.active g × (l ≡ 2 * g + 1))
-problem_or_guard p l r = go (has p.active (l / 2)) refl
-  where
-    go : (b : Bool) → has p.active (l / 2) ≡ b → IsProblemVar p (l / 2) ⊎ ((g : ℕ) × Contains p.active g × (l ≡ 2 * g + 1))
-    go true e = let a = Contains-from_has p.active (l / 2) e in inr (l / 2, a, r.negative a)
-    go false e = inl (var_from p (l / 2) (record { low = r.low; high = r.high; inactive = lacks_none p.active (l / 2) e; unfreed = r.unfreed }))
+use Rattle.gi_scopes.specs.Listing.{IsListing}
+use Rattle.gi_scopes.proofs.Fronts.{Contains-take, sublist_has, sublist_all}
 
 no_guard : (p : Problem) (l g : ℕ) → Contains p.active g → IsProblemVar p (l / 2) → l / 2 ≢ g
 no_guard p l g act pv e = (var_facts p (l / 2) pv).inactive (subst (Contains p.active) (sym e) act)
 
-forced_plain : (p : Problem) (given : List ℕ) (ps : List Pair) → All (λ (q : Pair). IsPlain p q.clause) ps → All (IsPlain p) (forced given ps)
-forced_plain p given [] a = All-nil (IsPlain p)
-forced_plain p given (q ∷ ps) a = go (forced_plain p given ps (All-tail (λ (q : Pair). IsPlain p q.clause) q ps a)) (All-head (λ (q : Pair). IsPlain p q.clause) q ps a) (has given (2 * q.guard))
-  where
-    go : All (IsPlain p) (forced given ps) → IsPlain p q.clause → (b : Bool) → All (IsPlain p) (cond b (q.clause ∷ forced given ps) (forced given ps))
-    go rest first true = All-cons (IsPlain p) q.clause (forced given ps) first rest
-    go rest first false = rest
-
--- clauses in force are of problem variables
-force_plain : (p : Problem) (given : List ℕ) → IsWellFormed p → All (IsPlain p) (force p given)
-unfolding force
-force_plain p given w = All-append (IsPlain p) p.plain (forced given p.pairs) w.plain (forced_plain p given p.pairs w.pairs)
-
 in_force_plain : (p : Problem) (given : List ℕ) → IsWellFormed p → (d : List ℕ) (m : ℕ) → Contains (force p given) d → Contains d m → IsProblemVar p (m / 2)
-in_force_plain p given w d m c a = All-contains (λ l. IsProblemVar p (l / 2)) d m (All-contains (IsPlain p) (force p given) d (force_plain p given w) c) a
+in_force_plain p given w d m c a = All-contains (λ l. IsProblemVar p (l / 2)) d m (All-contains (IsPlain p) (force p given) d (rests p given w).plain c) a
 
 -- what fails by unit closure over the full clauses fails over those in force
 fails : (p : Problem) (w : List ℕ) → IsWellFormed p → All (λ l. 1 ≤ l / 2) w → Conflicts (full p) w → Fail (force p w) w
@@ -70,25 +48,22 @@ clash_closes p n given w l wf within s c = (both_conflict (force p given) given 
 pub conflict_closes : (p : Problem) (n : ℕ) (given w : List ℕ) → IsWellFormed p → IsWithin n given → IsSublist w given → Conflicts (full p) w → Conflicts (force p given) given → Conflicts (force p given) given × IsSublist w given × Fail (force p w) w
 conflict_closes p n given w wf within s c f = (f, s, fails p w wf (low_lits n given w within s) c)
 
-module _ (p : Problem) (w : IsWellFormed p) (given : List ℕ) (base : ℕ) (lits : List ℕ) (u : IsUnder p given base lits) where
+module _ (p : Problem) (w : IsWellFormed p) (given lits : List ℕ) (u : IsDerivation (full p) given lits) where
   pub full_lit : (c : List ℕ) (l : ℕ) → Contains (full p) c → Contains c l → IsGuardedLit p l
   full_lit c l a b = All-contains (IsGuardedLit p) c l (All-contains (All (IsGuardedLit p)) (full p) c (rests p given w).lits a) b
 
   -- a guard's positive literal is an assumption, since no clause has it
   pub guard_given : (g : ℕ) → Contains p.active g → Contains lits (2 * g) → Contains given (2 * g)
-  guard_given g act h = elim (cases_lt h.0 base) [
-    | inl below ↦ All-contains (Contains given) (take base lits) (2 * g) u.assumed (subst (Contains (take base lits)) at (front_contains base lits h.0 below h.1))
-    | inr high ↦
-        let f = u.forced h.0 high h.1 in
-        let n : get_or lits h.0 0 ≡ 2 * (get_or lits h.0 0 / 2) + 1 = (full_lit f.0 (get_or lits h.0 0) f.1 f.2.stands).negative (subst (Contains p.active) (let e = at in omega arith) act) in
-        absurd (let e = at in omega arith)
-  ]
+  guard_given g act h = go (u.each h.0 h.1)
     where
       at : get_or lits h.0 0 ≡ 2 * g
       at = get_or_default lits h.0 0 (2 * g) h.1 ∙ h.2
 
-  given_inside : All (Contains lits) given
-  given_inside k d lt = Contains-take base lits (get_or given k d) (u.whole k d lt)
+      go : IsStep (full p) given (take h.0 lits) (get_or lits h.0 0) → Contains given (2 * g)
+      go (inl a) = subst (Contains given) at a
+      go (inr f) =
+          let n : get_or lits h.0 0 ≡ 2 * (get_or lits h.0 0 / 2) + 1 = (full_lit f.0 (get_or lits h.0 0) f.1 f.2.stands).negative (subst (Contains p.active) (let e = at in omega arith) act) in
+          absurd (let e = at in omega arith)
 
   -- the clause is in force less guards that are given, or its guard isn't given
   abbrev Told : List ℕ → Type 0
@@ -160,9 +135,9 @@ module _ (p : Problem) (w : IsWellFormed p) (given : List ℕ) (base : ℕ) (lit
       where
         go : (b : Bool) → is_problem_var p (get_or lits n 0 / 2) ≡ b → Shadow (suc n)
         go false e = shadow_skip (λ pv. false≢true (sym e ∙ pv))
-        go true pv = elim (cases_lt n base) [
-          | inl below ↦ shadow_push (inl (All-contains (Contains given) (take base lits) (get_or lits n 0) u.assumed (front_contains base lits n below lt)))
-          | inr high ↦ let f = u.forced n high lt in shadow_push (shadow_forced pv f.0 f.1 f.2)
+        go true pv = elim (u.each n lt) [
+          | inl a ↦ shadow_push (inl a)
+          | inr f ↦ shadow_push (shadow_forced pv f.0 f.1 f.2)
         ]
 
   shadow_front : (n : ℕ) → Shadow n
@@ -199,9 +174,9 @@ module _ (p : Problem) (w : IsWellFormed p) (given : List ℕ) (base : ℕ) (lit
       )
       go (inr s) = absurd (s.missing (guard_given s.guard s.active (subst (Contains lits) (opposite-odd s.guard) (All-contains (λ m. Contains lits (opposite m)) c (2 * s.guard + 1) f s.negative))))
 
-  module _ (closed : IsClosed (full p) lits) (free : IsConsistent lits) where
+  module _ (whole : All (Contains lits) given) (closed : IsClosed (full p) lits) (free : IsConsistent lits) where
     not_both : (g : ℕ) → Contains given (2 * g) → ¬ Contains lits (2 * g + 1)
-    not_both g a b = free.each (2 * g + 1) b (subst (Contains lits) (sym (opposite-odd g)) (All-contains (Contains lits) given (2 * g) given_inside a))
+    not_both g a b = free.each (2 * g + 1) b (subst (Contains lits) (sym (opposite-odd g)) (All-contains (Contains lits) given (2 * g) whole a))
 
     stays_settled : (c d : List ℕ) → IsLess p given c d → IsSettled lits c → IsSettled lits d
     stays_settled c d less (has_true l a b) = elim (All-contains (λ l. Contains d l ⊎ IsGiven p given l) c l less.others a) [
@@ -217,7 +192,7 @@ module _ (p : Problem) (w : IsWellFormed p) (given : List ℕ) (base : ℕ) (lit
     ]
       where
         false_guard : (z : ℕ) → IsGiven p given z → Contains lits (opposite z)
-        false_guard z g = subst (Contains lits) (sym (ap opposite g.negative ∙ opposite-odd g.guard)) (All-contains (Contains lits) given (2 * g.guard) given_inside g.stands)
+        false_guard z g = subst (Contains lits) (sym (ap opposite g.negative ∙ opposite-odd g.guard)) (All-contains (Contains lits) given (2 * g.guard) whole g.stands)
 
     closed_force : IsClosed (force p given) lits
     closed_force = record {
@@ -228,7 +203,7 @@ module _ (p : Problem) (w : IsWellFormed p) (given : List ℕ) (base : ℕ) (lit
     }
 
     pub nothing_fails : ¬ Conflicts (force p given) given
-    nothing_fails = nothing_conflicts (force p given) given lits closed_force free given_inside
+    nothing_fails = nothing_conflicts (force p given) given lits closed_force free whole
 
     closure_plain : (m : ℕ) → InClosure (force p given) given m → Contains given m ⊎ IsProblemVar p (m / 2)
     closure_plain m c = go (c.derived.each c.stands.0 c.stands.1)
@@ -240,30 +215,10 @@ module _ (p : Problem) (w : IsWellFormed p) (given : List ℕ) (base : ℕ) (lit
         go (inl a) = inl (subst (Contains given) at a)
         go (inr s) = inr (in_force_plain p given w s.0 m s.1 (subst (Contains s.0) at s.2.stands))
 
-    module _ (earlier ls : List ℕ) (rss : List (List ℕ)) (h : IsListing p (take base lits) earlier lits ls rss) where
-      forth : (xs : List ℕ) (m : ℕ) → Contains (take base lits ++ xs) m → Contains (given ++ xs) m
-      forth xs m c = elim (Contains-append_cases (take base lits) xs m c) [
-        | inl a ↦ Contains-append_left given xs m (All-contains (Contains given) (take base lits) m u.assumed a)
-        | inr b ↦ Contains-append_right given xs m b
-      ]
-
-      back : (xs : List ℕ) (m : ℕ) → Contains (given ++ xs) m → Contains (take base lits ++ xs) m
-      back xs m c = elim (Contains-append_cases given xs m c) [
-        | inl a ↦ Contains-append_left (take base lits) xs m (All-contains (Contains (take base lits)) given m u.whole a)
-        | inr b ↦ Contains-append_right (take base lits) xs m b
-      ]
-
-      pub are_listed : AreListed p given earlier ls rss
-      are_listed = record {
-        count = h.listed.count;
-        each = λ k lt.
-            let e = h.listed.each k lt in
-            (e.0, All-weaker (Contains (take base lits ++ (earlier ++ take k ls))) (Contains (given ++ (earlier ++ take k ls))) (forth (earlier ++ take k ls)) (get_or rss k []) e.1);
-      }
-
+    module _ (earlier ls : List ℕ) (rss : List (List ℕ)) (h : IsListing p given earlier lits ls rss) where
       cause : (k : ℕ) → k < length ls → HasCause p (given ++ (earlier ++ take k ls)) (get_or ls k 0)
       cause k lt =
-          let e = are_listed.each k lt in
+          let e = h.listed.each k lt in
           let r : IsReasoned p (get_or ls k 0) (get_or rss k []) = e.0 in
           (r.clause, r.stands, record { stands = r.holds; others = λ i d il. reason r e.1 (get_or r.clause i d) (Contains-get_or r.clause i d il) })
         where
@@ -276,10 +231,32 @@ module _ (p : Problem) (w : IsWellFormed p) (given : List ℕ) (base : ℕ) (lit
       pub implies : Implies p given earlier ls
       implies = record {
         distinct = h.distinct;
-        new = All-weaker (λ m. ¬ Contains (take base lits ++ earlier) m) (λ m. ¬ Contains (given ++ earlier) m) (λ m n c. n (back earlier m c)) ls h.new;
+        new = h.new;
         listed = record { plain = h.plain; consequences = λ k d lt. consequence (get_or ls k d) (h.inside k d lt) (h.plain k d lt); causes = cause };
         covers = λ m c. elim (closure_plain m c) [
           | inl a ↦ Contains-append_left given (earlier ++ ls) m a
-          | inr pv ↦ forth (earlier ++ ls) m (All-contains (λ m. IsProblemVar p (m / 2) → Contains (take base lits ++ (earlier ++ ls)) m) lits m h.covers (closure_inside (force p given) given lits closed_force free given_inside m c) pv)
+          | inr pv ↦ All-contains (λ m. IsProblemVar p (m / 2) → Contains (given ++ (earlier ++ ls)) m) lits m h.covers (closure_inside (force p given) given lits closed_force free whole m c) pv
         ];
       }
+
+-- where an assumption's opposite follows, the clauses in force conflict
+pub opposite_in_force : (p : Problem) (w : IsWellFormed p) (given lits : List ℕ) → IsDerivation (full p) given lits → (l : ℕ) → Contains given l → Contains lits (opposite l) → Conflicts (force p given) given
+opposite_in_force p w given lits u l g h = go (u.each h.0 h.1)
+  where
+    at : get_or lits h.0 0 ≡ opposite l
+    at = get_or_default lits h.0 0 (opposite l) h.1 ∙ h.2
+
+    more : IsDerivation (full p) given (lits ++ l ∷ [])
+    more = IsDerivation-push (full p) given lits l u (inl g)
+
+    falsified : (c : List ℕ) → Forces c (get_or lits h.0 0) (take h.0 lits) → IsFalsified (lits ++ l ∷ []) c
+    falsified c f i d lt =
+        let m : ℕ = get_or c i d in
+        elim (All-contains (λ m. (m ≡ get_or lits h.0 0) ⊎ Contains (take h.0 lits) (opposite m)) c m f.others (Contains-get_or c i d lt)) [
+          | inl same ↦ subst (Contains (lits ++ l ∷ [])) (sym (ap opposite (same ∙ at) ∙ opposite-opposite l)) (Contains-push lits l)
+          | inr b ↦ Contains-append_left lits (l ∷ []) (opposite m) (Contains-take h.0 lits (opposite m) b)
+        ]
+
+    go : IsStep (full p) given (take h.0 lits) (get_or lits h.0 0) → Conflicts (force p given) given
+    go (inl a) = both_conflict (force p given) given l g (subst (Contains given) at a)
+    go (inr f) = conflict_in_force p w given (lits ++ l ∷ []) more f.0 f.1 (falsified f.0 f.2)

@@ -1,8 +1,9 @@
 pub mod Viewed
+pub mod Under
+pub mod Built
 pub mod Open
 pub mod Answers
 pub mod Kept
-pub mod Under
 pub mod Traced
 pub mod Listing
 pub mod Laws

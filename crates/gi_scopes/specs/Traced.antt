@@ -1,6 +1,6 @@
 -- Marks at places of a trail, from which a conflict follows.
 use Rattle.std.specs.Prelude.{◌≡◌, ℕ, ◌/◌, ◌<◌, Bool, true, false, List, length, take, slice_index, slice_index_or, Contains}
-use Rattle.gi_lit.specs.Closure.{Forces, IsDerivation, Conflicts}
+use Rattle.gi_lit.specs.Closure.{Forces, IsDerivation, IsFalsified}
 use Rattle.gi_lit.specs.Problem.{Problem, full}
 use Rattle.gi_prop.specs.Assigned.{StandsAt}
 
@@ -17,10 +17,16 @@ pub record KeepsMarks (old new : List Bool) : Type 0 where
 abbrev pub IsResolved : Problem → List ℕ → ℕ → List Bool → Type 0
 IsResolved p lits at seen = (c : List ℕ) × Contains (full p) c × Forces c (slice_index lits at) (take at lits) × AreSeen lits c seen
 
--- whatever derives the marked literals before a place comes to a conflict
-abbrev pub LeadsToConflict : Problem → List ℕ → List Bool → ℕ → Type 0
-LeadsToConflict p lits seen at = (given d : List ℕ) → IsDerivation (full p) given d
-    → ((k : ℕ) → k < at → slice_index_or seen k false ≡ true → Contains d (slice_index lits k)) → Conflicts (full p) given
+-- the literals of the clause are made false by what follows from these
+abbrev pub Refutes : Problem → List ℕ → List ℕ → Type 0
+Refutes p given clause = (d : List ℕ) × IsDerivation (full p) given d × IsFalsified d clause
+
+-- whatever derives the marked literals before a place, from some of the assumptions with the marked ones among them, makes the clause false
+abbrev pub LeadsToFalse : Problem → List ℕ → List ℕ → List Bool → List ℕ → ℕ → Type 0
+LeadsToFalse p given lits seen clause at = (w d : List ℕ) → IsDerivation (full p) w d
+    → ((k : ℕ) → k < at → slice_index_or seen k false ≡ true → Contains d (slice_index lits k))
+    → ((k : ℕ) → k < length lits → slice_index_or seen k false ≡ true → Contains given (slice_index lits k) → Contains d (slice_index lits k))
+    → Refutes p w clause
 
 -- some of these literals, and each whose variable's place is marked
 pub record IsPicked (lits : List ℕ) (seen : List Bool) (all w : List ℕ) : Type 0 where

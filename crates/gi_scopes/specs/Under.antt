@@ -1,32 +1,22 @@
 -- Unit closure by the clauses of a problem, as a trail has it.
-use Rattle.std.specs.Prelude.{◌≡◌, ℕ, ◌≤◌, ◌<◌, ◌⊎◌, Some, None, List, ◌++◌, length, take, slice_index, slice_index_or, All, Contains}
-use Rattle.gi_lit.specs.Closure.{Forces, IsFalsified}
-use Rattle.gi_lit.specs.Problem.{Problem, full}
+use Rattle.std.specs.Prelude.{◌≡◌, ℕ, ◌≤◌, ◌<◌, ◌⊎◌, Option, Some, None, List, [], ◌++◌, length, take, slice_index, slice_index_or, All, Contains}
+use Rattle.gi_lit.specs.Literals.{opposite}
+use Rattle.gi_lit.specs.Closure.{Forces, IsFalsified, IsClosed}
+use Rattle.gi_lit.specs.Problem.{full}
 use Rattle.gi_store.specs.Held.{Held, Holds, problem_of}
 use Rattle.gi_prop.specs.Assigned.{Assigned}
 use Rattle.gi_prop.specs.Attached.{Attached, IsAttached}
+use Rattle.gi_scopes.specs.declared.clash.Clash.{Clash}
+use Rattle.gi_scopes.specs.declared.clash.Clash.TheVariants.{Opposite, Clause}
 
--- each literal from the base on is forced by a full clause and the literals before it
-abbrev pub AreForced : Problem → ℕ → List ℕ → Type 0
-AreForced p base lits = (k : ℕ) → base ≤ k → k < length lits → (c : List ℕ) × Contains (full p) c × Forces c (slice_index lits k) (take k lits)
+-- the plain clauses and groups of a store alone, with their keys
+abbrev pub base_of : Held → Held
+base_of s = record { vars = 0; plain = s.plain; groups = s.groups; active = []; freed = []; learnt = [] }
 
--- the literals up to the base are the assumptions, and each other is forced
-pub record IsUnder (p : Problem) (given : List ℕ) (base : ℕ) (lits : List ℕ) : Type 0 where
-  pub start : base ≤ length lits
-  pub assumed : All (Contains given) (take base lits)
-  pub whole : All (Contains (take base lits)) given
-  pub forced : AreForced p base lits
-
--- the literal is there, where it wasn't yet, and nothing else is new
-pub record TakesOn (old : List ℕ) (l : ℕ) (new : List ℕ) : Type 0 where
-  pub there : Contains new l
-  pub kept : All (Contains new) old
-  pub others : All (λ m. Contains old m ⊎ (m ≡ l)) new
-
--- exactly the keys of the problem's clauses are attached
+-- exactly the keys of these clauses are attached
 pub record AreProblemKeys (a : Attached) (s : Held) : Type 0 where
-  pub inside : (key : ℕ) (c : List ℕ) → IsAttached a key → Holds s key c → Contains (full (problem_of s)) c
-  pub whole : (c : List ℕ) → Contains (full (problem_of s)) c → (key : ℕ) × IsAttached a key × Holds s key c
+  pub inside : (key : ℕ) → IsAttached a key → (c : List ℕ) × Holds s key c
+  pub whole : (key : ℕ) (c : List ℕ) → Holds s key c → IsAttached a key
 
 -- the literal at a place was forced by a clause of the problem, whose key is its reason
 pub record IsImpliedAt (s : Held) (t : Assigned) (place : ℕ) : Type 0 where
@@ -34,19 +24,42 @@ pub record IsImpliedAt (s : Held) (t : Assigned) (place : ℕ) : Type 0 where
   pub reason : slice_index_or t.reasons place None ≡ Some key
   pub clause : List ℕ
   pub held : Holds s key clause
-  pub stands : Contains (full (problem_of s)) clause
   pub forces : Forces clause (slice_index t.lits place) (take place t.lits)
 
--- each literal from the base on was
-abbrev pub AreImplied : Held → ℕ → Assigned → Type 0
-AreImplied s base t = (k : ℕ) → base ≤ k → k < length t.lits → IsImpliedAt s t k
+-- the literal at a place is an assumption that nothing forced, or was forced by a clause of the problem
+abbrev pub IsReached : Held → List ℕ → Assigned → ℕ → Type 0
+IsReached s given t place = ((slice_index_or t.reasons place None ≡ None) × Contains given (slice_index t.lits place)) ⊎ IsImpliedAt s t place
+
+-- each of the first literals is
+pub record AreReached (s : Held) (given : List ℕ) (t : Assigned) (n : ℕ) : Type 0 where
+  pub each : (k : ℕ) → k < n → IsReached s given t k
+
+-- so many literals are the unit closure under the assumptions: each was reached, all assumptions are there, and no clause forces more
+pub record AreClosed (s : Held) (given : List ℕ) (t : Assigned) (n : ℕ) : Type 0 where
+  pub reached : AreReached s given t n
+  pub whole : All (Contains (take n t.lits)) given
+  pub closed : IsClosed (full (problem_of s)) (take n t.lits)
+
+-- such of these literals are added as weren't there
+pub record Adds (given : List ℕ) (old new : Assigned) : Type 0 where
+  pub vars : new.vars ≡ old.vars
+  pub marks : new.marks ≡ old.marks
+  pub more : List ℕ
+  pub lits : new.lits ≡ old.lits ++ more
+  pub why : List (Option ℕ)
+  pub reasons : new.reasons ≡ old.reasons ++ why
+  pub inside : All (Contains given) more
+  pub unforced : (k : ℕ) → slice_index_or why k None ≡ None
 
 -- more literals stand behind the others, each forced by a clause of the problem
 pub record AddsImplied (s : Held) (old new : Assigned) : Type 0 where
   pub vars : new.vars ≡ old.vars
+  pub marks : new.marks ≡ old.marks
   pub more : List ℕ
   pub lits : new.lits ≡ old.lits ++ more
-  pub each : AreImplied s (length old.lits) new
+  pub why : List (Option ℕ)
+  pub reasons : new.reasons ≡ old.reasons ++ why
+  pub each : (k : ℕ) → length old.lits ≤ k → k < length new.lits → IsImpliedAt s new k
 
 -- the key is of a clause of the problem that is false
 pub record IsFalseKey (s : Held) (lits : List ℕ) (key : ℕ) : Type 0 where
@@ -54,3 +67,8 @@ pub record IsFalseKey (s : Held) (lits : List ℕ) (key : ℕ) : Type 0 where
   pub held : Holds s key clause
   pub stands : Contains (full (problem_of s)) clause
   pub falsified : IsFalsified lits clause
+
+-- an assumption is false, or a clause of the problem is
+abbrev pub IsClash : Held → List ℕ → List ℕ → Clash → Type 0
+IsClash s given lits (Opposite l) = Contains given l × Contains lits (opposite l)
+IsClash s given lits (Clause key) = IsFalseKey s lits key

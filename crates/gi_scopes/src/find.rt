@@ -1,96 +1,171 @@
-ghost use Rattle.std.specs.Prelude.{◌≡◌, ◌≤◌, ◌<◌, ◌/◌, ℕ, length, take, All, Contains, IfOk, OnOk};
-ghost use Rattle.gi_lit.specs.Literals.{opposite};
+ghost use Rattle.std.specs.Prelude.{◌≡◌, ◌≤◌, ◌<◌, ◌+◌, ◌-◌, ◌/◌, ◌++◌, ℕ, length, [], All, Contains, IfOk, OnOk};
 ghost use Rattle.gi_lit.specs.Lists.{IsSublist};
-ghost use Rattle.gi_lit.specs.Closure.{Conflicts};
+ghost use Rattle.gi_lit.specs.Closure.{Conflicts, IsFalsified};
 ghost use Rattle.gi_lit.specs.Problem.{full};
 ghost use Rattle.gi_store.specs.Held.{IsWithin, problem_of};
-ghost use Rattle.gi_model.specs.State.{scope_listed};
-ghost use Rattle.gi_scopes.specs.Under.{AreImplied, IsFalseKey};
-ghost use Rattle.gi_scopes.specs.Listing.{Closes};
+ghost use Rattle.gi_model.specs.State.{scope_assumed, scope_listed};
+ghost use Rattle.gi_scopes.specs.Under.{base_of, AreReached};
+ghost use Rattle.gi_scopes.specs.Built.{IsFor, IsStuck, kept_lits};
+ghost use Rattle.gi_scopes.specs.Traced.{Refutes};
+ghost use Rattle.gi_scopes.specs.Listing.{AreNoted, Closes, Builds, Counts, GrowsLittle};
 
-use crate::close::{assume, close};
-use crate::implied::implied;
+use crate::clash::Clash;
+use crate::implied::{are_there, implied};
+use crate::kept::{Kept, Reach, climb, listed_above};
 use crate::level::Level;
 use crate::lists::blank;
 use crate::outcome::Outcome;
 use crate::steps::Steps;
-use crate::trace::{mark, pick, trace};
+use crate::trace::{pick, trace};
 use gi_lit::{Lit, Lits};
 use gi_prop::Trail;
-use gi_store::{Key, Store};
+use gi_store::Store;
 use std::alloc::{AllocError, Global};
 use std::sync::ledger::Ledger;
 
-/// The assumptions of one variable, whose literals both stand among them.
-fn clashing(alloc: Global, trail: &Trail, given: &[Lit], l: Lit) -> Result<Lits, AllocError>
+/// Assumptions from which it follows that the literals of a clause are false, with those of the clause among them.
+fn culprits(
+    alloc: Global,
+    store: &Store,
+    trail: &Trail,
+    given: &[Lit],
+    clause: &[Lit],
+) -> Result<Lits, AllocError>
+    requires vars { store.now.vars ≤ trail.now.vars }
     requires within { IsWithin trail.now.vars given.now }
-    requires inside { All (Contains given.now) trail.now.lits }
-    requires stands { Contains given.now l }
-    requires clash { Contains trail.now.lits (opposite l) }
+    requires clause { IsWithin trail.now.vars clause.now }
+    requires reached { AreReached (base_of store.now) given.now trail.now (length trail.now.lits) }
+    requires falsified { IsFalsified trail.now.lits clause.now }
     ensures some { IfOk result (λ w. IsSublist w given.now) }
-    ensures conflicts { IfOk result (λ w. Contains w l × Contains w (opposite l)) }
+    ensures refutes { IfOk result (λ w. Refutes (problem_of (base_of store.now)) w clause.now × ((m : ℕ) → Contains clause.now m → Contains given.now m → Contains w m)) }
 {
     let mut seen = blank(alloc, trail.lits().len())?;
-    mark(seen.as_mut_slice(), trail, &[l]);
+    trace(seen.as_mut_slice(), store, trail, clause);
     pick(alloc, trail, seen.as_slice(), given)
 }
 
-/// Assumptions from which a clause's conflict follows.
+/// Assumptions from which a conflict follows.
 fn failing(
     alloc: Global,
     store: &Store,
     trail: &Trail,
-    base: usize,
-    conflict: Key,
     given: &[Lit],
+    clash: Clash,
 ) -> Result<Lits, AllocError>
-    requires vars { store.now.vars ≤ trail.now.vars }
-    requires within { IsWithin trail.now.vars given.now }
-    requires base { base ≤ length trail.now.lits }
-    requires assumed { All (Contains given.now) (take base trail.now.lits) }
-    requires implied { AreImplied store.now base trail.now }
-    requires conflict { IsFalseKey store.now trail.now.lits conflict }
+    requires within { IsWithin store.now.vars given.now }
+    requires stuck { IsStuck store.now given.now trail.now clash }
     ensures some { IfOk result (λ w. IsSublist w given.now) }
     ensures conflicts { IfOk result (λ w. Conflicts (full (problem_of store.now)) w) }
 {
-    let mut seen = blank(alloc, trail.lits().len())?;
-    trace(seen.as_mut_slice(), store, trail, base, conflict);
-    pick(alloc, trail, seen.as_slice(), given)
+    let _vars = store.vars();
+    match clash {
+        Clash::Opposite(l) => culprits(alloc, store, trail, given, &[l]),
+        Clash::Clause(key) => culprits(alloc, store, trail, given, store.clause(key)),
+    }
 }
 
-/// Counts the literals of a trail.
-fn count<L: Ledger>(steps: &mut Steps<L>, lits: &[Lit]) {
-    for _l in lits {
+/// Counts the literals of a trail from a place on.
+fn count<L: Ledger>(steps: &mut Steps<L>, from: usize, trail: &Trail)
+    ensures { steps.new ≡ steps.old + (length trail.now.lits - from) }
+{
+    for _at in from..trail.lits().len() {
         steps.tick();
     }
 }
 
-/// What unit closure by the clauses of the problem finds under these assumptions: what it implies beyond what scopes list, or assumptions that
-/// fail.
+/// How many literals are true.
+fn length_of(kept: &Option<Kept>) -> usize
+    ensures { result ≡ length (kept_lits kept.now) }
+{
+    match kept {
+        None => 0,
+        Some(kept) => kept.trail.lits().len(),
+    }
+}
+
+/// For how many scopes a trail may have literals that aren't listed, after a test that looked at all of it: for those that were open, and for one more
+/// where one of them lists a literal that isn't true.
+fn unlisted_after(trail: &Trail, levels: &[Level]) -> u32
+    requires { length levels.now < 4294967295 }
+    ensures high { length levels.now ≤ result }
+    ensures listed { result ≡ length levels.now → All (Contains trail.now.lits) (scope_listed levels.now) }
+{
+    let depth = levels.len() as u32;
+    for level in levels {
+        if !are_there(trail, level.listed()) {
+            return depth + 1;
+        }
+    }
+    depth
+}
+
+/// What unit closure by the clauses of the problem finds under the assumptions of the scopes and these: what it implies beyond what scopes list, or
+/// assumptions that fail. `given` has them all.
 pub(crate) fn find<L: Ledger>(
     alloc: Global,
     store: &Store,
-    given: &[Lit],
+    kept: Option<Kept>,
+    noted: &mut Vec<bool>,
     levels: &[Level],
+    assumed: &[Lit],
+    given: &[Lit],
     steps: &mut Steps<L>,
 ) -> Result<Outcome, AllocError>
-    requires { IsWithin store.now.vars given.now }
-    ensures { IfOk result (Closes (problem_of store.now) given.now (scope_listed levels.now)) }
+    requires none { AreNoted [] noted.old.items }
+    requires depth { length levels.now < 4294967295 }
+    requires open { IsWithin store.now.vars (scope_assumed levels.now) }
+    requires assumed { IsWithin store.now.vars assumed.now }
+    requires given { given.now ≡ scope_assumed levels.now ++ assumed.now }
+    requires kept { IsFor kept levels.now (base_of store.now) }
+    ensures closes { IfOk result (Closes (problem_of store.now) given.now (scope_listed levels.now)) }
+    ensures builds { IfOk result (Builds store.now levels.now assumed.now) }
+    ensures counts { IfOk result (Counts (length (kept_lits kept)) steps.old steps.new) }
+    ensures none { OnOk result (AreNoted [] noted.new.items) }
+    ensures little { IfOk result (GrowsLittle (problem_of store.now) levels.now assumed.now (kept_lits kept)) }
 {
-    let mut trail = Trail::new(alloc);
-    trail.grow(store.vars())?;
-    match assume(&mut trail, given) {
-        Some(l) => {
-            count(steps, trail.lits());
-            return Ok(Outcome::Failing(clashing(alloc, &trail, given, l)?));
+    let _vars = store.vars();
+    let from = length_of(&kept);
+    let above = listed_above(&kept, levels);
+    match climb(alloc, store, kept, levels, assumed)? {
+        Reach::Stuck(kept, clash) => {
+            count(steps, from, &kept.trail);
+            let w = failing(alloc, store, &kept.trail, given, clash)?;
+            Ok(Outcome::Failing(w))
         }
-        None => {}
-    }
-    let base = trail.lits().len();
-    let conflict = close(alloc, store, &mut trail)?;
-    count(steps, trail.lits());
-    match conflict {
-        Some(key) => Ok(Outcome::Failing(failing(alloc, store, &trail, base, key, given)?)),
-        None => Ok(Outcome::Listed(implied(alloc, store, &trail, base, levels)?)),
+        Reach::Closed(kept) => {
+            let mut kept = kept;
+            let _lits = kept.trail.lits();
+            count(steps, from, &kept.trail);
+            match above {
+                Some(n) => {
+                    let listing = implied(
+                        alloc,
+                        store,
+                        &kept.trail,
+                        noted,
+                        from,
+                        assumed,
+                        given,
+                        levels,
+                    )?;
+                    kept.unlisted = n;
+                    Ok(Outcome::Listed(listing, kept))
+                }
+                None => {
+                    let listing = implied(
+                        alloc,
+                        store,
+                        &kept.trail,
+                        noted,
+                        0,
+                        assumed,
+                        given,
+                        levels,
+                    )?;
+                    kept.unlisted = unlisted_after(&kept.trail, levels);
+                    Ok(Outcome::Listed(listing, kept))
+                }
+            }
+        }
     }
 }

@@ -1,5 +1,6 @@
 ghost use Rattle.std.specs.Prelude.{◌≡◌, [], ◌∷◌, ◌++◌, OnOk};
 
+use crate::kept::Kept;
 use crate::short::Short;
 use gi_lit::{Lit, Lits};
 use std::alloc::{AllocError, Global};
@@ -14,8 +15,8 @@ pub(crate) struct Implied {
 /// What a test comes to.
 #[derive(Drop)]
 pub(crate) enum Outcome {
-    /// What is implied.
-    Listed(Implied),
+    /// What is implied, and the trail that shows it.
+    Listed(Implied, Kept),
     /// Some of the assumptions, which fail.
     Failing(Lits),
 }

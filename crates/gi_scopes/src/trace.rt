@@ -1,15 +1,14 @@
-ghost use Rattle.std.specs.Prelude.{◌≡◌, ◌≤◌, ◌<◌, ◌/◌, ℕ, false, true, length, replicate, slice_index_or, Contains, IfOk, IsTrue};
+ghost use Rattle.std.specs.Prelude.{List, ◌≡◌, ◌≤◌, ◌<◌, ◌/◌, ℕ, false, true, length, replicate, slice_index_or, Contains, IfOk, IsTrue};
 ghost use Rattle.gi_lit.specs.Lists.{IsSublist};
 ghost use Rattle.gi_lit.specs.Closure.{IsFalsified};
-ghost use Rattle.gi_lit.specs.Problem.{full};
 ghost use Rattle.gi_store.specs.Held.{IsWithin, problem_of};
 ghost use Rattle.gi_prop.specs.Assigned.{StandsAt};
-ghost use Rattle.gi_scopes.specs.Under.{IsImpliedAt, AreImplied, IsFalseKey};
-ghost use Rattle.gi_scopes.specs.Traced.{AreSeen, KeepsMarks, IsResolved, LeadsToConflict, IsPicked};
+ghost use Rattle.gi_scopes.specs.Under.{base_of, IsImpliedAt, IsReached, AreReached};
+ghost use Rattle.gi_scopes.specs.Traced.{AreSeen, KeepsMarks, IsResolved, LeadsToFalse, IsPicked};
 
 use gi_lit::{Lit, Lits};
 use gi_prop::Trail;
-use gi_store::{Key, Store};
+use gi_store::Store;
 use std::alloc::{AllocError, Global};
 
 /// Marks the places of the variables of literals.
@@ -27,38 +26,38 @@ pub(crate) fn mark(seen: &mut [bool], trail: &Trail, lits: &[Lit])
     }
 }
 
-/// Marks the places of the clause that forced the literal at a place, if that is marked.
+/// Marks the places of the clause that forced the literal at a place, if that is marked and no assumption.
 fn resolve(seen: &mut [bool], store: &Store, trail: &Trail, at: usize)
     requires vars { store.now.vars ≤ trail.now.vars }
     requires count { length seen.old ≡ length trail.now.lits }
     requires at { at < length trail.now.lits }
-    requires implied { IsImpliedAt store.now trail.now at }
+    requires reached { (given : List ℕ) × IsReached (base_of store.now) given trail.now at }
     ensures kept { KeepsMarks seen.old seen.new }
-    ensures resolved { slice_index_or seen.old at false ≡ true → IsResolved (problem_of store.now) trail.now.lits at seen.new }
+    ensures resolved { slice_index_or seen.old at false ≡ true → IsImpliedAt (base_of store.now) trail.now at → IsResolved (problem_of (base_of store.now)) trail.now.lits at seen.new }
 {
     let _vars = store.vars();
     if seen[at] {
         match trail.reason(trail.lits()[at].var()) {
             Some(key) => mark(seen, trail, store.clause(key)),
-            None => unreachable!(),
+            None => {}
         }
     }
 }
 
-/// Marks what a false clause goes back to.
-pub(crate) fn trace(seen: &mut [bool], store: &Store, trail: &Trail, base: usize, conflict: Key)
+/// Marks what makes the literals of a clause false.
+pub(crate) fn trace(seen: &mut [bool], store: &Store, trail: &Trail, clause: &[Lit])
     requires vars { store.now.vars ≤ trail.now.vars }
+    requires within { IsWithin trail.now.vars clause.now }
     requires count { length seen.old ≡ length trail.now.lits }
-    requires base { base ≤ length trail.now.lits }
-    requires implied { AreImplied store.now base trail.now }
-    requires conflict { IsFalseKey store.now trail.now.lits conflict }
+    requires falsified { IsFalsified trail.now.lits clause.now }
+    requires reached { (given : List ℕ) × AreReached (base_of store.now) given trail.now (length trail.now.lits) }
     ensures count { length seen.new ≡ length seen.old }
-    ensures leads { LeadsToConflict (problem_of store.now) trail.now.lits seen.new base }
+    ensures leads { (given : List ℕ) → AreReached (base_of store.now) given trail.now (length trail.now.lits) → LeadsToFalse (problem_of (base_of store.now)) given trail.now.lits seen.new clause.now 0 }
+    ensures seen { AreSeen trail.now.lits clause.now seen.new }
 {
-    let _vars = store.vars();
-    mark(seen, trail, store.clause(conflict));
+    mark(seen, trail, clause);
     let mut at = trail.lits().len();
-    while at > base {
+    while at > 0 {
         at -= 1;
         resolve(seen, store, trail, at);
     }

@@ -5,4 +5,4 @@ use Rattle.gi_scopes.proofs.Noting.{ListingTo}
 use Rattle.gi_scopes.proofs.implied.implied.Given as goal
 
 abbrev pub invariant-loop-at : goal.invariant-loop-at
-invariant-loop-at l = ListingTo (problem_of l.store) (take l.base l.trail.lits) (scope_listed l.levels) (take l.at l.trail.lits) l.listing.lits l.listing.reasons.items (2 * l.store.vars + 2) l.noted.items
+invariant-loop-at l = ListingTo (problem_of l.store) l.given (scope_listed l.levels) (take l.at l.trail.lits) l.listing.lits l.listing.reasons.items (2 * l.store.vars + 2) l.noted.items

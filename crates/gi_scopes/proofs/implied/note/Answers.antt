@@ -1,8 +1,7 @@
-use Rattle.std.proofs.Common.{◌≡◌, ◌≢◌, ◌<◌, ◌++◌, ◌∷◌, [], ℕ, true, false, set, length, get_or, sym, ap, ◌∙◌, subst}
+use Rattle.std.proofs.Common.{◌≡◌, ◌<◌, ◌++◌, ◌∷◌, [], true, false, set, length, get_or, sym, ◌∙◌, subst}
 use Rattle.std.specs.List.{Contains}
 use Rattle.std.proofs.lemmas.Bool.{eqb-true, eq-eqb, false≢true}
 use Rattle.gi_lit.specs.Literals.{opposite}
-use Rattle.gi_lit.specs.Problem.{has}
 use Rattle.gi_lit.proofs.Vars.{Contains-from_has, lacks_none}
 use Rattle.gi_scopes.specs.Listing.{AreNoted}
 use Rattle.gi_scopes.proofs.Noting.{notes_none, notes_one, noted_push}
