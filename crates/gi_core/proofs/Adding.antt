@@ -2,6 +2,7 @@
 use Rattle.std.proofs.Common.{◌≡◌, ℕ, ◌+◌, ◌/◌, ◌<◌, ◌≤◌, ◌||◌, Bool, true, false, not, suc, List, ◌∷◌, length, drop, get_or, refl, sym, ap, ◌∙◌, subst, add-one, drop-cons, inl, inr}
 use Rattle.std.specs.List.{All, list_any}
 use Rattle.std.proofs.lemmas.Bool.{lt-leb}
+use Rattle.std.proofs.lemmas.List.{drop_all}
 use Rattle.std.proofs.lemmas.List.Elements.{All-head, All-tail}
 use Rattle.std.proofs.lemmas.List.Folds.{list_any_none}
 use Rattle.gi_lit.specs.Problem.{Problem, top, grown, with_clause, with_clauses, is_problem_var, is_usable, IsWellFormed}
@@ -9,7 +10,6 @@ use Rattle.gi_lit.proofs.Growing.{IsUsable, IsWellFormed-grown, IsWellFormed-cla
 use Rattle.gi_model.specs.Refusals.{some_unusable}
 use Rattle.gi_model.proofs.Loading.{AreUsable, clauses_usable, clauses_usable_more}
 use Rattle.gi_core.specs.Content.{Content}
-use Rattle.gi_core.proofs.Keys.{drop_all}
 
 -- the clauses that are left may still be added, and with them the problem is the one with all of them
 pub record IsAdding (old now : Content) (vars : ℕ) (clauses left : List (List ℕ)) : Type 0 where
@@ -47,7 +47,7 @@ all_usable p c u = list_any_none (λ l. not (is_usable p l)) c (λ k d lt. go (g
 pub adding_usable : (old now : Content) (vars : ℕ) (clauses : List (List ℕ)) (i : ℕ) (c : List ℕ) → i < length clauses → c ≡ get_or clauses i c → IsAdding old now vars clauses (drop i clauses) → some_unusable now.problem c ≡ false
 adding_usable old now vars clauses i c lt q a = all_usable now.problem c (All-head (λ d. All (IsUsable now.problem) d) c (drop (i + 1) clauses) (adding_now old now vars clauses i c lt q a).usable)
 
-pub adding_more : (old now new : Content) (vars : ℕ) (clauses : List (List ℕ)) (i : ℕ) (c : List ℕ) → i < length clauses → c ≡ get_or clauses i c → IsAdding old now vars clauses (drop i clauses) → new ≡ record now { problem = with_clause c now.problem } → IsAdding old new vars clauses (drop (i + 1) clauses)
+pub adding_more : (old now new : Content) (vars : ℕ) (clauses : List (List ℕ)) (i : ℕ) (c : List ℕ) → i < length clauses → c ≡ get_or clauses i c → IsAdding old now vars clauses (drop i clauses) → new ≡ record now { problem = with_clause c now.problem; base = new.base } → IsAdding old new vars clauses (drop (i + 1) clauses)
 adding_more old now new vars clauses i c lt q a e =
     let b = adding_now old now vars clauses i c lt q a in
     let u : AreUsable now.problem (drop (i + 1) clauses) = All-tail (λ d. All (IsUsable now.problem) d) c (drop (i + 1) clauses) b.usable in
@@ -58,7 +58,7 @@ adding_more old now new vars clauses i c lt q a e =
       known = b.known;
     })
 
-pub adding_end : (old now : Content) (vars : ℕ) (clauses : List (List ℕ)) (i : ℕ) → length clauses ≤ i → IsAdding old now vars clauses (drop i clauses) → now ≡ record old { problem = with_clauses clauses (grown vars old.problem) }
+pub adding_end : (old now : Content) (vars : ℕ) (clauses : List (List ℕ)) (i : ℕ) → length clauses ≤ i → IsAdding old now vars clauses (drop i clauses) → now ≡ record old { problem = with_clauses clauses (grown vars old.problem); base = now.base }
 adding_end old now vars clauses i le a =
     let b = subst (IsAdding old now vars clauses) (drop_all i clauses le) a in
-    ap (λ (p : Problem). record now { problem = p }) b.problem ∙ ap (λ (ks : List (List ℕ)). record { problem = with_clauses clauses (grown vars old.problem); known = ks }) b.known
+    ap (λ (p : Problem). record now { problem = p }) b.problem ∙ ap (λ (ks : List (List ℕ)). record { problem = with_clauses clauses (grown vars old.problem); known = ks; base = now.base }) b.known

@@ -4,7 +4,7 @@ use Rattle.std.specs.List.{sum_by, list_any, AllByRecursion}
 use Rattle.std.proofs.lemmas.Bool.{le-ltb}
 use Rattle.std.proofs.lemmas.List.{append-nil}
 use Rattle.std.proofs.lemmas.List.Sums.{sum_by-append}
-use Rattle.gi_lit.specs.Problem.{Problem, Pair, top, grown, with_clause, with_clauses, clause_count, lit_count}
+use Rattle.gi_lit.specs.Problem.{Problem, Group, as_given, top, grown, with_clause, with_clauses, clause_count, lit_count}
 use Rattle.gi_lit.proofs.Growing.{grows_grown, IsWellFormed-grown}
 use Rattle.gi_dimacs.specs.Content.{File, literals_in}
 use Rattle.gi_dimacs.specs.Relation.{IsCnf}
@@ -15,7 +15,8 @@ use Rattle.gi_dimacs.specs.declared.items.Item.TheVariants.{Clause}
 use Rattle.gi_dimacs.specs.declared.content.Format.TheVariants as format
 use Rattle.gi_dimacs.specs.declared.fault.CnfFault.{CnfFault}
 use Rattle.gi_dimacs.proofs.Accepting.{file_is_read}
-use Rattle.gi_model.specs.Limits.{most_vars, most_clauses, most_lits}
+use Rattle.gi_model.specs.Limits.{most_clauses, most_lits}
+use Rattle.gi_lit.specs.Literals.{max_var}
 use Rattle.gi_model.specs.Loads.{loaded, file_clauses, file_refused, with_file}
 use Rattle.gi_model.specs.State.{State, dead_state}
 use Rattle.gi_model.specs.Refusals.{refuses, is_over, admits, some_unusable, is_past}
@@ -31,16 +32,16 @@ use Rattle.gi_model.specs.declared.replies.Reply.{Reply}
 use Rattle.gi_model.specs.declared.replies.Reply.TheVariants as reply
 use Rattle.gi_model.proofs.Loading.{clauses_usable, clauses_usable_more, clauses_added}
 use Rattle.gi_model.proofs.Stepping.{step_refused, step_unread, step_dead, step_done}
-use Rattle.gi_scopes.specs.Open.{AreReasoned}
+use Rattle.gi_scopes.specs.Open.{AreReasoned, Open}
 use Rattle.gi_scopes.specs.Laws.{MoreClausesKeepReasons}
 use Rattle.gi_core.specs.Content.{Content}
 use Rattle.gi_core.specs.Early.{early}
 use Rattle.gi_core.specs.Loads.{TakesFile}
 use Rattle.gi_core.specs.Task.{solve_of}
-use Rattle.gi_core.specs.View.{state_of, Moves}
+use Rattle.gi_core.specs.View.{state_of, Moves, IsBlank}
 use Rattle.gi_core.specs.declared.task.Task.{Task}
 use Rattle.gi_core.specs.declared.machine.Machine.{Machine}
-use Rattle.gi_core.proofs.Moving.{moves_same, moves_dead}
+use Rattle.gi_core.proofs.Moving.{moves_same, moves_dead, blank_backed, unkept}
 
 -- the table for a load that the machine admits
 abbrev file_refusal : State → Result File CnfFault → Option Refusal
@@ -65,8 +66,8 @@ load_unread s bytes f e = go (list_any (some_unusable s.problem) (file_clauses (
     go false false (Err x) q = step_unread s (call.LoadCnf bytes) (refusal.Payload x.line 0 (payload.Cnf x.code)) f q refl refl
     go false false (Ok x) q = step_dead s (call.LoadCnf bytes) f q refl
 
-pub moves_unread : (m n : Machine) (bytes : List ℕ) (answer : Reply) → fits (call.LoadCnf bytes) ≡ true → early (state_of m) (call.LoadCnf bytes) ≡ None → answer ≡ reply.NoMemory → state_of n ≡ dead_state → ((p : Problem) → AreReasoned p n.scopes) → Moves m (call.LoadCnf bytes) answer n
-moves_unread m n bytes answer f e ea es all = record { step = rw (ea, es) (load_unread (state_of m) bytes f e); reasoned = λ r. all n.engine.problem }
+pub moves_unread : (m n : Machine) (bytes : List ℕ) (answer : Reply) → fits (call.LoadCnf bytes) ≡ true → early (state_of m) (call.LoadCnf bytes) ≡ None → answer ≡ reply.NoMemory → state_of n ≡ dead_state → IsBlank n.scopes → Moves m (call.LoadCnf bytes) answer n
+moves_unread m n bytes answer f e ea es all = record { step = rw (ea, es) (load_unread (state_of m) bytes f e); backed = λ b. blank_backed n.engine n.scopes all }
 
 moves_refused : (m : Machine) (bytes : List ℕ) (r : Refusal) → fits (call.LoadCnf bytes) ≡ true → refuses (state_of m) (call.LoadCnf bytes) ≡ Some r → Moves m (call.LoadCnf bytes) (reply.Refused r) m
 moves_refused m bytes r f q = moves_same m (call.LoadCnf bytes) (reply.Refused r) (step_refused (state_of m) (call.LoadCnf bytes) r f q)
@@ -74,7 +75,7 @@ moves_refused m bytes r f q = moves_same m (call.LoadCnf bytes) (reply.Refused r
 -- a payload with a fault
 not_past : (p : Problem) → IsProblemWithin p → is_past (grown 0 p) ≡ false
 unfolding lit_count
-not_past p w = rw (le-ltb most_vars (max p.vars 0) (let v = w.vars in omega arith), le-ltb most_clauses (clause_count p) w.clauses, le-ltb most_lits (lit_count p) w.lits) refl
+not_past p w = rw (le-ltb max_var (max p.vars 0) (let v = w.vars in omega arith), le-ltb most_clauses (clause_count p) w.clauses, le-ltb most_lits (lit_count p) w.lits) refl
 
 pub moves_fault : (m : Machine) (bytes : List ℕ) (x : CnfFault) → IsKept (state_of m) → fits (call.LoadCnf bytes) ≡ true → early (state_of m) (call.LoadCnf bytes) ≡ None → IsFault format.Cnf x bytes → Moves m (call.LoadCnf bytes) (reply.Refused (refusal.Payload x.line 0 (payload.Cnf x.code))) m
 unfolding loaded
@@ -92,9 +93,9 @@ with_plain : (cs : List (List ℕ)) (p : Problem) → (with_clauses cs p).plain 
 with_plain [] p = sym (append-nil p.plain)
 with_plain (c ∷ cs) p = with_plain cs (with_clause c p) ∙ append_assoc p.plain (c ∷ []) cs
 
-with_pairs : (cs : List (List ℕ)) (p : Problem) → (with_clauses cs p).pairs ≡ p.pairs
-with_pairs [] p = refl
-with_pairs (c ∷ cs) p = with_pairs cs (with_clause c p)
+with_groups : (cs : List (List ℕ)) (p : Problem) → (with_clauses cs p).groups ≡ p.groups
+with_groups [] p = refl
+with_groups (c ∷ cs) p = with_groups cs (with_clause c p)
 
 top_low : (n : ℕ) (c : List ℕ) → AllByRecursion (IsLiteralOf n) c → top c ≤ n
 unfolding top
@@ -111,23 +112,22 @@ is_short p cs = nat_lt most_clauses (clause_count p + length cs) || nat_lt most_
 
 count_more : (n : ℕ) (cs : List (List ℕ)) (p : Problem) → clause_count (with_clauses cs (grown n p)) ≡ clause_count p + length cs
 count_more n cs p =
-    ap (λ (ds : List (List ℕ)). length ds + length (with_clauses cs (grown n p)).pairs) (with_plain cs (grown n p)) ∙ ap (λ (qs : List Pair). length (p.plain ++ cs) + length qs) (with_pairs cs (grown n p))
-    ∙ (let h = length-append p.plain cs in let e : length (p.plain ++ cs) + length p.pairs ≡ length p.plain + length p.pairs + length cs = omega arith in e)
+    ap (λ (ds : List (List ℕ)). length ds + length (with_clauses cs (grown n p)).groups) (with_plain cs (grown n p)) ∙ ap (λ (qs : List Group). length (p.plain ++ cs) + length qs) (with_groups cs (grown n p))
+    ∙ (let h = length-append p.plain cs in let e : length (p.plain ++ cs) + length p.groups ≡ length p.plain + length p.groups + length cs = omega arith in e)
 
 lits_more : (n : ℕ) (cs : List (List ℕ)) (p : Problem) → lit_count (with_clauses cs (grown n p)) ≡ lit_count p + sum_by length cs
 unfolding lit_count
 lits_more n cs p =
-    let f : Pair → ℕ = λ q. length q.clause in
-    ap (λ (ds : List (List ℕ)). sum_by length ds + sum_by f (with_clauses cs (grown n p)).pairs) (with_plain cs (grown n p)) ∙ ap (λ (qs : List Pair). sum_by length (p.plain ++ cs) + sum_by f qs) (with_pairs cs (grown n p))
-    ∙ (let h = sum_by-append (λ (d : List ℕ). length d) p.plain cs in let e : sum_by length (p.plain ++ cs) + sum_by f p.pairs ≡ sum_by length p.plain + sum_by f p.pairs + sum_by length cs = omega arith in e)
+    ap (λ (ds : List (List ℕ)). sum_by length ds + sum_by as_given (with_clauses cs (grown n p)).groups) (with_plain cs (grown n p)) ∙ ap (λ (qs : List Group). sum_by length (p.plain ++ cs) + sum_by as_given qs) (with_groups cs (grown n p))
+    ∙ (let h = sum_by-append (λ (d : List ℕ). length d) p.plain cs in let e : sum_by length (p.plain ++ cs) + sum_by as_given p.groups ≡ sum_by length p.plain + sum_by as_given p.groups + sum_by length cs = omega arith in e)
 
 -- a good file never has too many variables
-past_short : (p : Problem) (v : Cnf) → IsGood v → p.vars ≤ most_vars → is_past (with_clauses v.clauses (grown v.vars p)) ≡ is_short p v.clauses
+past_short : (p : Problem) (v : Cnf) → IsGood v → p.vars ≤ max_var → is_past (with_clauses v.clauses (grown v.vars p)) ≡ is_short p v.clauses
 past_short p v g w =
     let q = with_clauses v.clauses (grown v.vars p) in
     let small = g.vars in
-    let low : q.vars ≤ most_vars = vars_within most_vars v.vars v.clauses (grown v.vars p) small (omega arith) g.items in
-    ap (λ (b : Bool). b || nat_lt most_clauses (clause_count q) || nat_lt most_lits (lit_count q)) (le-ltb most_vars q.vars low)
+    let low : q.vars ≤ max_var = vars_within max_var v.vars v.clauses (grown v.vars p) small (omega arith) g.items in
+    ap (λ (b : Bool). b || nat_lt most_clauses (clause_count q) || nat_lt most_lits (lit_count q)) (le-ltb max_var q.vars low)
     ∙ ap (λ (n : ℕ). nat_lt most_clauses n || nat_lt most_lits (lit_count q)) (count_more v.vars v.clauses p)
     ∙ ap (λ (n : ℕ). nat_lt most_clauses (clause_count p + length v.clauses) || nat_lt most_lits n) (lits_more v.vars v.clauses p)
 
@@ -154,13 +154,13 @@ take_lit m v k g bad bytes is f e = moves_refused m bytes refusal.Lit f (file_te
 pub take_limit : (m : Machine) (v : Cnf) → IsKept (state_of m) → IsGood v → list_any (some_unusable m.engine.problem) v.clauses ≡ false → is_short m.engine.problem v.clauses ≡ true → TakesFile m v (reply.Refused refusal.Limit) m
 take_limit m v k g good short bytes is f e = moves_refused m bytes refusal.Limit f (file_tested m v bytes false true k g good short is e)
 
-pub take_dead : (m n : Machine) (v : Cnf) (answer : Reply) → IsKept (state_of m) → IsGood v → list_any (some_unusable m.engine.problem) v.clauses ≡ false → is_short m.engine.problem v.clauses ≡ false → answer ≡ reply.NoMemory → state_of n ≡ dead_state → ((p : Problem) → AreReasoned p n.scopes) → TakesFile m v answer n
+pub take_dead : (m n : Machine) (v : Cnf) (answer : Reply) → IsKept (state_of m) → IsGood v → list_any (some_unusable m.engine.problem) v.clauses ≡ false → is_short m.engine.problem v.clauses ≡ false → answer ≡ reply.NoMemory → state_of n ≡ dead_state → IsBlank n.scopes → TakesFile m v answer n
 take_dead m n v answer k g good room ea es all bytes is f e = moves_dead m n (call.LoadCnf bytes) answer f (file_tested m v bytes false false k g good room is e) refl ea es all
 
-pub take_done : (law : MoreClausesKeepReasons) (m : Machine) (c : Content) (t : Task) (v : Cnf) → IsKept (state_of m) → IsGood v → list_any (some_unusable m.engine.problem) v.clauses ≡ false → is_short m.engine.problem v.clauses ≡ false
-    → c ≡ record m.engine { problem = with_clauses v.clauses (grown v.vars m.engine.problem) } → solve_of t ≡ edited (solve_of m.task) → TakesFile m v (reply.LoadedCnf v.vars (length v.clauses)) (record m { engine = c; task = t })
+pub take_done : (law : MoreClausesKeepReasons) (m : Machine) (c : Content) (o : Open) (t : Task) (v : Cnf) → IsKept (state_of m) → IsGood v → list_any (some_unusable m.engine.problem) v.clauses ≡ false → is_short m.engine.problem v.clauses ≡ false
+    → c ≡ record m.engine { problem = with_clauses v.clauses (grown v.vars m.engine.problem); base = c.base } → o ≡ unkept m.scopes → solve_of t ≡ edited (solve_of m.task) → TakesFile m v (reply.LoadedCnf v.vars (length v.clauses)) (record m { engine = c; scopes = o; task = t })
 unfolding after
-take_done law m c t v k g good room ec et bytes is f e =
+take_done law m c o t v k g good room ec eo et bytes is f e =
     let s = state_of m in
     let answer = reply.LoadedCnf v.vars (length v.clauses) in
     let read = file_read v bytes is in
@@ -168,8 +168,8 @@ take_done law m c t v k g good room ec et bytes is f e =
     let q = with_clauses v.clauses p in
     let usable = clauses_usable_more v.vars m.engine.problem v.clauses k.clauses (clauses_usable m.engine.problem v.clauses good) in
     let more = (clauses_added v.clauses p (IsWellFormed-grown v.vars m.engine.problem k.clauses) usable).0 in
-    let new : state_of (record m { engine = c; task = t }) ≡ with_problem q s = rw (ec, et) refl in
+    let new : state_of (record m { engine = c; scopes = o; task = t }) ≡ with_problem q s = rw (ec, eo, et) refl in
     record {
-      step = step_done s (call.LoadCnf bytes) answer (state_of (record m { engine = c; task = t })) f (file_tested m v bytes false false k g good room is e) (ap loaded_reply (sym read)) (new ∙ ap (λ (r : Result File CnfFault). with_problem (with_file r m.engine.problem) s) (sym read));
-      reasoned = λ r. subst (λ (x : Content). AreReasoned x.problem m.scopes) (sym ec) (law m.engine.problem q m.scopes (λ d h. more.full d ((grows_grown v.vars m.engine.problem).full d h)) r);
+      step = step_done s (call.LoadCnf bytes) answer (state_of (record m { engine = c; scopes = o; task = t })) f (file_tested m v bytes false false k g good room is e) (ap loaded_reply (sym read)) (new ∙ ap (λ (r : Result File CnfFault). with_problem (with_file r m.engine.problem) s) (sym read));
+      backed = λ b. rw eo (record { reasoned = subst (λ (p : Problem). AreReasoned p (unkept m.scopes)) (sym (ap (λ (x : Content). x.problem) ec)) (law m.engine.problem q m.scopes (λ d h. more.full d ((grows_grown v.vars m.engine.problem).full d h)) b.reasoned); served = tt });
     }

@@ -1,12 +1,11 @@
 pub mod Keys
+pub mod Leaving
 pub mod Reading
 pub mod Table
 pub mod Moving
 pub mod Opening
 pub mod Slices
 pub mod Models
-pub mod Folding
 pub mod Adding
 pub mod Filing
 pub mod Running
-pub mod Spending

@@ -16,11 +16,11 @@ use Rattle.gi_model.specs.declared.replies.Reply.{Reply}
 use Rattle.gi_model.specs.declared.replies.Reply.TheVariants as reply
 use Rattle.gi_model.proofs.Accepting.{accepted_facts}
 use Rattle.gi_model.proofs.Stepping.{step_done, start_step}
-use Rattle.gi_scopes.specs.Open.{Open, AreReasoned, asked}
+use Rattle.gi_scopes.specs.Open.{Open, asked}
 use Rattle.gi_scopes.specs.Laws.{MoreClausesKeepReasons}
 use Rattle.gi_core.specs.Content.{Content}
 use Rattle.gi_core.specs.Task.{solve_of, IsModelOf}
-use Rattle.gi_core.specs.View.{state_of, Moves}
+use Rattle.gi_core.specs.View.{state_of, Moves, IsBacked}
 use Rattle.gi_core.specs.declared.task.Task.{Task}
 use Rattle.gi_core.specs.declared.task.Task.TheVariants.{Running}
 use Rattle.gi_core.specs.declared.machine.Machine.{Machine}
@@ -30,23 +30,23 @@ pub moves_assume : (law : MoreClausesKeepReasons) (m : Machine) (e : Content) (t
 unfolding after
 moves_assume law m e t ls pending free ep ee et = record {
   step = step_done (state_of m) (call.Assume ls) reply.Done (state_of (record m { engine = e; pending = pending; task = t })) refl free refl (rw (ep, ee, et) refl);
-  reasoned = λ r. subst (λ (k : Content). AreReasoned k.problem m.scopes) (sym ee) (law m.engine.problem (grown (top ls) m.engine.problem) m.scopes (grows_grown (top ls) m.engine.problem).full r);
+  backed = λ b. subst (λ (k : Content). IsBacked k m.scopes) (sym ee) (record { reasoned = law m.engine.problem (grown (top ls) m.engine.problem) m.scopes (grows_grown (top ls) m.engine.problem).full b.reasoned; served = b.served });
 }
 
 pub moves_tested : (m : Machine) (o : Open) (t : Task) (pending : List ℕ) (f : Found) (answer : Reply) → refuses (state_of m) call.Test ≡ None → AnswersTest (state_of m) answer → after (state_of m) call.Test answer ≡ opened f (state_of m)
-    → o.scopes ≡ m.scopes.scopes ++ record { assumed = m.pending; found = f } ∷ [] → pending ≡ [] → solve_of t ≡ edited (solve_of m.task) → (AreReasoned m.engine.problem m.scopes → AreReasoned m.engine.problem o)
+    → o.scopes ≡ m.scopes.scopes ++ record { assumed = m.pending; found = f } ∷ [] → pending ≡ [] → solve_of t ≡ edited (solve_of m.task) → (IsBacked m.engine m.scopes → IsBacked m.engine o)
     → Moves m call.Test answer (record m { scopes = o; pending = pending; task = t })
 moves_tested m o t pending f answer free a aft eo ep et rs = record {
   step = step_done (state_of m) call.Test answer (state_of (record m { scopes = o; pending = pending; task = t })) refl free a (rw (eo, ep, et) (sym aft));
-  reasoned = rs;
+  backed = rs;
 }
 
-pub moves_untest : (m : Machine) (o : Open) (t : Task) → refuses (state_of m) call.Untest ≡ None → o.scopes ≡ take (length m.scopes.scopes - 1) m.scopes.scopes → solve_of t ≡ edited (solve_of m.task) → (AreReasoned m.engine.problem m.scopes → AreReasoned m.engine.problem o)
+pub moves_untest : (m : Machine) (o : Open) (t : Task) → refuses (state_of m) call.Untest ≡ None → o.scopes ≡ take (length m.scopes.scopes - 1) m.scopes.scopes → solve_of t ≡ edited (solve_of m.task) → (IsBacked m.engine m.scopes → IsBacked m.engine o)
     → Moves m call.Untest reply.Done (record m { scopes = o; task = t })
 unfolding after
 moves_untest m o t free eo et rs = record {
   step = step_done (state_of m) call.Untest reply.Done (state_of (record m { scopes = o; task = t })) refl free refl (rw (eo, et) refl);
-  reasoned = rs;
+  backed = rs;
 }
 
 pub some_scope : (m : Machine) → refuses (state_of m) call.Untest ≡ None → 1 ≤ length m.scopes.scopes
@@ -56,10 +56,10 @@ pub scope_left : (m : Machine) → refuses (state_of m) call.Test ≡ None → l
 scope_left m free = let b = leb-false most_scopes (length m.scopes.scopes) (accepted_facts (state_of m) call.Test refl free).within in omega arith
 
 pub moves_start : (m n : Machine) (budget : ℕ) (assumed : List ℕ) (e : Content) → MayCome (state_of m) (call.Solve budget) → refuses (state_of m) (call.Solve budget) ≡ None → assumed ≡ all_assumed (state_of m) → e ≡ record m.engine { known = trimmed m.engine.known }
-    → n ≡ record m { engine = e; pending = []; serial = m.serial + 1; slices = 0; task = Running (record { serial = m.serial + 1; assumed = assumed; budget = budget; spent = 0 }) } → Moves m (call.Solve budget) (reply.Started (m.serial + 1)) n
+    → n ≡ record m { engine = e; pending = []; serial = m.serial + 1; task = Running (record { serial = m.serial + 1; assumed = assumed; budget = budget; spent = 0; slices = 0 }) } → Moves m (call.Solve budget) (reply.Started (m.serial + 1)) n
 moves_start m n budget assumed e may free ea ee en = record {
   step = start_step (state_of m) (state_of n) budget may free (rw (en, ee, ea) refl);
-  reasoned = λ r. rw (en, ee) r;
+  backed = λ b. rw (en, ee) (record { reasoned = b.reasoned; served = b.served });
 }
 
 -- reasons look at the problem and the scopes alone
@@ -67,23 +67,23 @@ pub explained : (m : Machine) (l : ℕ) (rs : List ℕ) → Explains (asked m.en
 explained m l rs e = record { clause = e.clause; stands = e.stands; holds = e.holds; others = e.others; distinct = e.distinct; earlier = e.earlier }
 
 pub moves_implied : (m : Machine) (o : Open) (t : Task) (p : Problem) (assumed pending ls : List ℕ) → p ≡ m.engine.problem → assumed ≡ m.pending → pending ≡ [] → refuses (state_of m) call.Test ≡ None → AnswersTest (asked p m.scopes.scopes assumed) (reply.Implied ls)
-    → o.scopes ≡ m.scopes.scopes ++ record { assumed = assumed; found = listed ls } ∷ [] → solve_of t ≡ edited (solve_of m.task) → (AreReasoned p m.scopes → AreReasoned p o) → Moves m call.Test (reply.Implied ls) (record m { scopes = o; pending = pending; task = t })
+    → o.scopes ≡ m.scopes.scopes ++ record { assumed = assumed; found = listed ls } ∷ [] → solve_of t ≡ edited (solve_of m.task) → (IsBacked m.engine m.scopes → IsBacked m.engine o) → Moves m call.Test (reply.Implied ls) (record m { scopes = o; pending = pending; task = t })
 unfolding after
 moves_implied m o t p assumed pending ls ep ea en free a eo et rs = moves_tested m o t pending (listed ls) (reply.Implied ls) free
     (subst (λ (x : List ℕ). AnswersTest (asked m.engine.problem m.scopes.scopes x) (reply.Implied ls)) ea (subst (λ (q : Problem). AnswersTest (asked q m.scopes.scopes assumed) (reply.Implied ls)) ep a)) refl
-    (subst (λ (x : List ℕ). o.scopes ≡ m.scopes.scopes ++ record { assumed = x; found = listed ls } ∷ []) ea eo) en et (subst (λ (q : Problem). AreReasoned q m.scopes → AreReasoned q o) ep rs)
+    (subst (λ (x : List ℕ). o.scopes ≡ m.scopes.scopes ++ record { assumed = x; found = listed ls } ∷ []) ea eo) en et rs
 
 pub moves_failed : (m : Machine) (o : Open) (t : Task) (p : Problem) (assumed pending w : List ℕ) → p ≡ m.engine.problem → assumed ≡ m.pending → pending ≡ [] → refuses (state_of m) call.Test ≡ None → AnswersTest (asked p m.scopes.scopes assumed) (reply.Failed w)
-    → o.scopes ≡ m.scopes.scopes ++ record { assumed = assumed; found = failing w } ∷ [] → solve_of t ≡ edited (solve_of m.task) → (AreReasoned p m.scopes → AreReasoned p o) → Moves m call.Test (reply.Failed w) (record m { scopes = o; pending = pending; task = t })
+    → o.scopes ≡ m.scopes.scopes ++ record { assumed = assumed; found = failing w } ∷ [] → solve_of t ≡ edited (solve_of m.task) → (IsBacked m.engine m.scopes → IsBacked m.engine o) → Moves m call.Test (reply.Failed w) (record m { scopes = o; pending = pending; task = t })
 unfolding after
 moves_failed m o t p assumed pending w ep ea en free a eo et rs = moves_tested m o t pending (failing w) (reply.Failed w) free
     (subst (λ (x : List ℕ). AnswersTest (asked m.engine.problem m.scopes.scopes x) (reply.Failed w)) ea (subst (λ (q : Problem). AnswersTest (asked q m.scopes.scopes assumed) (reply.Failed w)) ep a)) refl
-    (subst (λ (x : List ℕ). o.scopes ≡ m.scopes.scopes ++ record { assumed = x; found = failing w } ∷ []) ea eo) en et (subst (λ (q : Problem). AreReasoned q m.scopes → AreReasoned q o) ep rs)
+    (subst (λ (x : List ℕ). o.scopes ≡ m.scopes.scopes ++ record { assumed = x; found = failing w } ∷ []) ea eo) en et rs
 
 -- the model that was found
 pub moves_model : (m : Machine) (values : List Bool) (ls : List ℕ) → refuses (state_of m) call.Model ≡ None → IsModelOf (solve_of m.task) values → ls ≡ model_of m.engine.problem values → Moves m call.Model (reply.Model ls) m
 unfolding after
-moves_model m values ls free h e = record { step = step_done (state_of m) call.Model (reply.Model ls) (state_of m) refl free (go (solve_of m.task) h) refl; reasoned = λ r. r }
+moves_model m values ls free h e = record { step = step_done (state_of m) call.Model (reply.Model ls) (state_of m) refl free (go (solve_of m.task) h) refl; backed = λ b. b }
   where
     go : (v : Solve) → IsModelOf v values → AnswersModel (state_of m) v (reply.Model ls)
     go (ended n (Sat told)) q = ap reply.Model (e ∙ ap (model_of m.engine.problem) (sym q))

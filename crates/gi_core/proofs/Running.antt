@@ -1,16 +1,15 @@
 -- The steps of a machine are a legal history.
-use Rattle.std.proofs.Common.{◌≡◌, ◌^◌, ◌≤◌, List, [], ◌∷◌, ◌++◌, sym, ap, ◌∙◌, subst}
+use Rattle.std.proofs.Common.{◌≡◌, List, [], ◌∷◌, sym, ap, ◌∙◌, subst}
 use Rattle.gi_model.specs.State.{State, opening}
 use Rattle.gi_model.specs.Effects.{after}
 use Rattle.gi_model.specs.History.{Entry, Allows, IsLegalFrom, after_all}
 use Rattle.gi_model.specs.Kept.{IsKept}
 use Rattle.gi_model.specs.Told.{told_spent, HasSpent}
 use Rattle.gi_model.specs.Laws.{KnownIsTold, SpentIsTold, GuardsAreClean, IsClean}
-use Rattle.gi_model.specs.Bound.{SolvesAreShort, IsUnderWay}
-use Rattle.gi_model.specs.declared.calls.Call.TheVariants.{NewGuard, Solve as Start}
+use Rattle.gi_model.specs.declared.calls.Call.TheVariants.{NewGuard}
 use Rattle.gi_model.specs.declared.replies.Reply.TheVariants as reply
 use Rattle.gi_model.proofs.Histories.{histories_kept}
-use Rattle.gi_core.specs.Laws.{Runs, StepsAreLegal, StepsKeep, StepsTell, StepsGiveCleanGuards, SolvesStayShort}
+use Rattle.gi_core.specs.Laws.{Runs, StepsAreLegal, StepsKeep, StepsTell, StepsGiveCleanGuards}
 
 pub runs_from : (es : List Entry) (s t : State) → Runs s es t → IsLegalFrom s es × (t ≡ after_all s es)
 unfolding after_all
@@ -40,14 +39,3 @@ runs_clean law es s t g r step =
     let a = runs_after es s r in
     let P : State → Type 0 = λ x. Allows x NewGuard (reply.Guard g) in
     subst (λ (x : State). IsClean x g) (sym (step.new_is ∙ ap (λ (x : State). after x NewGuard (reply.Guard g)) a.state)) (law es g a.legal (subst P a.state step.allowed))
-
-runs_append : (es more : List Entry) (s m t : State) → Runs s es m → Runs m more t → Runs s (es ++ more) t
-runs_append [] more s m t r q = subst (λ (x : State). Runs x more t) r q
-runs_append (e ∷ es) more s m t r q = (r.0, r.1, runs_append es more r.0 m t r.2 q)
-
-pub runs_short : SolvesAreShort → SolvesStayShort
-runs_short law es more s t by budget q r w quiet under =
-    let a = runs_after es s r in
-    let all = es ++ record { by = by; call = Start budget; reply = reply.Started q.serial } ∷ more in
-    let b = runs_after all t (runs_append es (record { by = by; call = Start budget; reply = reply.Started q.serial } ∷ more) opening s t r w) in
-    subst (λ (x : State). q.spent ≤ 3 ^ x.problem.vars) (sym a.state) (law es more by budget q b.legal quiet (subst (λ (x : State). IsUnderWay x.solve q) b.state under))

@@ -1,10 +1,13 @@
 -- A slice of the search is a slice of work.
-use Rattle.std.proofs.Common.{◌≡◌, ◌≢◌, ℕ, ◌+◌, ◌/◌, ◌≤◌, ◌==◌, Bool, true, false, cond, Some, None, List, ◌++◌, length, refl, ◌∙◌, arith, ◌⊎◌, inl, inr}
+use Rattle.std.proofs.Common.{◌≡◌, ◌≢◌, ℕ, ◌+◌, ◌*◌, ◌/◌, ◌≤◌, ◌==◌, Bool, true, false, cond, Some, None, List, ◌++◌, length, refl, ◌∙◌, arith, ◌⊎◌, inl, inr}
 use Rattle.std.specs.List.{All, Contains}
 use Rattle.std.proofs.lemmas.Bool.{both_ways, cases_Bool, eq-eqb, eqb-true}
 use Rattle.std.proofs.lemmas.List.Elements.{All-weaker}
 use Rattle.gi_lit.specs.Problem.{Problem, has, IsProblemVar, IsLiveVar}
 use Rattle.gi_lit.proofs.Vars.{var_from, Contains-from_has, lacks_none}
+use Rattle.gi_store.specs.Held.{Held}
+use Rattle.gi_model.specs.Limits.{most_news}
+use Rattle.gi_model.specs.Luby.{IsLuby}
 use Rattle.gi_model.specs.State.{State, Run, live_run, dead_state}
 use Rattle.gi_model.specs.Refusals.{refuses}
 use Rattle.gi_model.specs.Effects.{sliced}
@@ -18,12 +21,11 @@ use Rattle.gi_model.specs.declared.replies.Cause.TheVariants.{Budget}
 use Rattle.gi_cdcl.specs.Ends.{EndsSlice}
 use Rattle.gi_cdcl.specs.declared.slice.Slice.{Slice}
 use Rattle.gi_cdcl.specs.declared.slice.Slice.TheVariants as slice
-use Rattle.gi_scopes.specs.Open.{AreReasoned}
 use Rattle.gi_core.specs.Content.{Content}
 use Rattle.gi_core.specs.Slicing.{AreUsable, Learns, Advances}
 use Rattle.gi_core.specs.Task.{run_of}
 use Rattle.gi_core.specs.Ending.{verdict_of, now_of, Settles}
-use Rattle.gi_core.specs.View.{state_of, Moves}
+use Rattle.gi_core.specs.View.{state_of, Moves, IsBacked, IsBlank}
 use Rattle.gi_core.specs.declared.task.Job.{Job}
 use Rattle.gi_core.specs.declared.task.Task.TheVariants.{Running}
 use Rattle.gi_core.specs.declared.task.Flag.TheVariants.{Alive}
@@ -38,8 +40,8 @@ ends_work s r limit mark news slice.Learned e n few within = go (r.spent + lengt
     go : (b : Bool) → (r.spent + length news == r.budget) ≡ b → EndsWork s r mark news (now_of (cond b (Some (Unknown (Budget r.budget))) None))
     go true t = (e.0, (eqb-true (r.spent + length news) r.budget t, e.1.1), refl)
     go false t = (e.0, (λ q. both_ways _ t (eq-eqb (r.spent + length news) r.budget q.0)), e.1.1)
-ends_work s r limit mark news (slice.Sat values) e n few within = (e.0, (λ q. let spent = q.0 in e.1 (omega arith, q.1)), record { count = e.2.count; clauses = e.2.clauses; lits = e.2.lits })
-ends_work s r limit mark news (slice.Unsat w) e n few within = (e.0, (λ q. let spent = q.0 in e.1 (omega arith, q.1)), record { some = e.2.some; fails = e.2.fails; derived = e.2.derived })
+ends_work s r limit mark news (slice.Sat values) e n few within = (e.0, (λ q. let spent = q.0 in e.1 (omega arith, q.1)), e.2)
+ends_work s r limit mark news (slice.Unsat w) e n few within = (e.0, (λ q. let spent = q.0 in e.1 (omega arith, q.1)), e.2)
 ends_work s r limit mark news slice.NoMemory e n few within = absurd (n refl)
 
 pub advances_learns : (old new : Content) (assumed : List ℕ) (limit serial mark : ℕ) (news : List (List ℕ)) (end : Slice) → end ≢ slice.NoMemory → Advances old new assumed limit serial mark news end → Learns old new assumed limit serial mark news end
@@ -56,18 +58,18 @@ live_used p v h = elim (cases_Bool (has p.active v)) [
   | inr f ↦ inl (var_from p v (record { low = h.0; high = h.1; inactive = lacks_none p.active v f; unfreed = h.2 }))
 ]
 
-pub kept_usable : (s : State) → IsKept s → AreUsable (record { problem = s.problem; known = s.known })
-kept_usable s k = record {
+pub kept_usable : (s : State) (base : Held) → IsKept s → AreUsable (record { problem = s.problem; known = s.known; base = base })
+kept_usable s base k = record {
   implied = k.known_implied;
   used = All-weaker (All (λ l. IsLiveVar s.problem (l / 2))) (All (λ l. IsProblemVar s.problem (l / 2) ⊎ Contains s.problem.active (l / 2))) (λ c a. All-weaker (λ l. IsLiveVar s.problem (l / 2)) (λ l. IsProblemVar s.problem (l / 2) ⊎ Contains s.problem.active (l / 2)) (λ l. live_used s.problem (l / 2)) c a) s.known k.known_live;
 }
 
 -- the slice of a job, and what became of the machine
-pub settled : (m a n : Machine) (job : Job) (limit mark : ℕ) (news : List (List ℕ)) (end : Slice) (answer : Reply) → m.flag ≡ Alive → end ≢ slice.NoMemory → limit ≤ 1024 → job.spent + limit ≤ job.budget
-    → Learns m.engine a.engine job.assumed limit job.serial mark news end → a ≡ record m { engine = a.engine; slices = a.slices }
+pub settled : (m a n : Machine) (job : Job) (limit mark luby : ℕ) (news : List (List ℕ)) (end : Slice) (answer : Reply) → m.flag ≡ Alive → end ≢ slice.NoMemory → limit ≤ most_news → IsLuby (job.slices + 1) luby → limit ≤ 32 * luby → job.spent + limit ≤ job.budget
+    → Learns m.engine a.engine job.assumed limit job.serial mark news end → a ≡ record m { engine = a.engine }
     → Settles a job news (verdict_of end mark (job.spent + length news) job.budget) answer n → Moves (record m { task = Running job }) (call.Work mark) answer n
 unfolding refuses
-settled m a n job limit mark news end answer alive_is some limit_is within l part s = go answer s
+settled m a n job limit mark luby news end answer alive_is some limit_is luby_is paced within l part s = go answer s
   where
     old : Machine
     old = record m { task = Running job }
@@ -76,21 +78,21 @@ settled m a n job limit mark news end answer alive_is some limit_is within l par
     live = rw alive_is refl
 
     go : (x : Reply) → Settles a job news (verdict_of end mark (job.spent + length news) job.budget) x n → Moves old (call.Work mark) x n
-    go (reply.Worked told now) h = rw (h.0, h.1) (record {
+    go (reply.Worked told now) h = rw (h.news_are, h.now_is) (record {
       step = work_step (state_of old) (state_of n) (run_of job) mark news (now_of (verdict_of end mark (job.spent + length news) job.budget)) live
-          (record { few = (let f = l.few in omega arith); within = (let f = l.few in omega arith); fresh = l.fresh; ends = ends_work (state_of old) (run_of job) limit mark news end l.ends some l.few within })
-          (h.2 ∙ made);
-      reasoned = λ r. rw (h.3, h.4) (reasons r);
+          (record { few = (let f = l.few in omega arith); paced = (luby, luby_is, (let f = l.few in omega arith)); within = (let f = l.few in omega arith); fresh = l.fresh; ends = ends_work (state_of old) (run_of job) limit mark news end l.ends some l.few within })
+          (h.state ∙ made);
+      backed = λ b. rw (h.scopes, h.engine) (backs b);
     })
       where
         made : record (state_of a) { solve = sliced (run_of job) (length news) now } ≡ record (state_of old) { known = m.engine.known ++ news; solve = sliced (run_of job) (length news) (now_of (verdict_of end mark (job.spent + length news) job.budget)) }
-        made = rw (part, l.new_is, h.1) refl
+        made = rw (part, l.new_is, h.now_is) refl
 
-        reasons : AreReasoned m.engine.problem m.scopes → AreReasoned a.engine.problem a.scopes
-        reasons r = rw (part, l.new_is) r
+        backs : IsBacked m.engine m.scopes → IsBacked a.engine a.scopes
+        backs b = rw (part, l.new_is) (record { reasoned = b.reasoned; served = b.served })
     go reply.NoMemory h = moves_dead old n (call.Work mark) reply.NoMemory tt refl (rw live refl) refl h.0 h.1
     go other h = elim h [ ]
 
-pub work_dead : (m n : Machine) (job : Job) (mark : ℕ) (answer : Reply) → m.flag ≡ Alive → answer ≡ reply.NoMemory → state_of n ≡ dead_state → ((p : Problem) → AreReasoned p n.scopes) → Moves (record m { task = Running job }) (call.Work mark) answer n
+pub work_dead : (m n : Machine) (job : Job) (mark : ℕ) (answer : Reply) → m.flag ≡ Alive → answer ≡ reply.NoMemory → state_of n ≡ dead_state → IsBlank n.scopes → Moves (record m { task = Running job }) (call.Work mark) answer n
 unfolding refuses
 work_dead m n job mark answer e ea es all = moves_dead (record m { task = Running job }) n (call.Work mark) answer tt refl (rw e refl) ea es all

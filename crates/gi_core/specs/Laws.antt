@@ -1,16 +1,13 @@
 -- What the steps of a new machine make, one after the other.
-use Rattle.std.specs.Prelude.{◌≡◌, ◌≢◌, ℕ, ◌^◌, ◌≤◌, List, [], ◌∷◌, All}
+use Rattle.std.specs.Prelude.{◌≡◌, ℕ, List, [], ◌∷◌, All}
 use Rattle.gi_lit.specs.Learnt.{IsImplied}
-use Rattle.gi_model.specs.State.{State, Run, ended, opening}
+use Rattle.gi_model.specs.State.{State, opening}
 use Rattle.gi_model.specs.History.{Entry, Step, IsLegal, after_all}
 use Rattle.gi_model.specs.Kept.{IsKept}
 use Rattle.gi_model.specs.Told.{told_known, told_spent, HasSpent}
 use Rattle.gi_model.specs.Laws.{IsClean}
-use Rattle.gi_model.specs.Bound.{IsQuiet, IsUnderWay}
-use Rattle.gi_model.specs.declared.calls.Call.TheVariants.{NewGuard, Solve as Start}
-use Rattle.gi_model.specs.declared.replies.Cause.TheVariants.{Budget}
+use Rattle.gi_model.specs.declared.calls.Call.TheVariants.{NewGuard}
 use Rattle.gi_model.specs.declared.replies.Reply.TheVariants as reply
-use Rattle.gi_model.specs.declared.replies.Verdict.TheVariants.{Unknown}
 
 -- each entry is a step from the state before it
 abbrev pub Runs : State → List Entry → State → Type 0
@@ -44,20 +41,3 @@ StepsTell = (es : List Entry) (s : State) → Runs opening es s → IsTold es s
 -- nothing names a guard that is handed out, the second time either
 abbrev pub StepsGiveCleanGuards : Type 0
 StepsGiveCleanGuards = (es : List Entry) (s t : State) (g : ℕ) → Runs opening es s → Step s NewGuard (reply.Guard g) t → IsClean t g
-
--- from the start of a solve over n variables on, and while no edit is accepted, it has learnt at most 3^n clauses
-abbrev pub SolvesStayShort : Type 0
-SolvesStayShort = (es more : List Entry) (s t : State) (by budget : ℕ) (r : Run) → Runs opening es s → Runs s (record { by = by; call = Start budget; reply = reply.Started r.serial } ∷ more) t → All IsQuiet more → IsUnderWay t.solve r → r.spent ≤ 3 ^ s.problem.vars
-
--- the entry starts no solve
-abbrev pub StartsNone : Entry → Type 0
-StartsNone e = (n : ℕ) → e.reply ≢ reply.Started n
-
--- the news that the entries tell are at most 3^n, and where the solve ended out of budget, so is the budget that it was started with
-pub record IsShort (vars budget : ℕ) (more : List Entry) (t : State) : Type 0 where
-  pub news : told_spent 0 more ≤ 3 ^ vars
-  pub spent : (serial b : ℕ) → t.solve ≡ ended serial (Unknown (Budget b)) → (b ≡ budget) × (budget ≤ 3 ^ vars)
-
--- and that holds to its end: from the start on, while no edit is accepted and no other solve is started, whether it is still under way or not
-abbrev pub SolvesEndShort : Type 0
-SolvesEndShort = (es more : List Entry) (s t : State) (by budget serial : ℕ) → Runs opening es s → Runs s (record { by = by; call = Start budget; reply = reply.Started serial } ∷ more) t → All IsQuiet more → All StartsNone more → IsShort s.problem.vars budget more t

@@ -7,5 +7,4 @@ pub mod Ending
 pub mod Lacking
 pub mod Early
 pub mod Loads
-pub mod Luby
 pub mod Laws

@@ -9,7 +9,7 @@ use Rattle.gi_core.specs.declared.task.Flag.{Flag}
 use Rattle.gi_core.specs.declared.task.Flag.TheVariants as flag
 
 abbrev pub run_of : Job → Run
-run_of j = record { serial = j.serial; assumed = j.assumed; budget = j.budget; spent = j.spent }
+run_of j = record { serial = j.serial; assumed = j.assumed; budget = j.budget; spent = j.spent; slices = j.slices }
 
 abbrev pub solve_of : Task → Solve
 solve_of Idle = no_solve

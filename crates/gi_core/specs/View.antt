@@ -1,10 +1,14 @@
 -- How a machine's parts are seen as a state, and what a call does to them.
+use Rattle.std.specs.Prelude.{◌≡◌, None}
+use Rattle.gi_lit.specs.Problem.{Problem}
 use Rattle.gi_model.specs.State.{State}
 use Rattle.gi_model.specs.History.{Step}
 use Rattle.gi_model.specs.Kept.{IsKept}
 use Rattle.gi_model.specs.declared.calls.Call.{Call}
 use Rattle.gi_model.specs.declared.replies.Reply.{Reply}
-use Rattle.gi_scopes.specs.Open.{AreReasoned}
+use Rattle.gi_scopes.specs.Open.{Open, AreReasoned}
+use Rattle.gi_scopes.specs.Built.{IsFor}
+use Rattle.gi_core.specs.Content.{Content}
 use Rattle.gi_core.specs.Task.{solve_of, life_of}
 use Rattle.gi_core.specs.declared.machine.Machine.{Machine}
 
@@ -19,12 +23,22 @@ state_of m = record {
   life = life_of m.flag;
 }
 
--- what every legal history keeps, and the reasons of each listed literal
+-- each literal that scopes list has its reasons, and the trail that they keep is built for the engine's clauses
+pub record IsBacked (c : Content) (o : Open) : Type 0 where
+  pub reasoned : AreReasoned c.problem o
+  pub served : IsFor o.kept o.scopes c.base
+
+-- whatever the problem is, nothing is listed that lacks a reason; and no trail is kept
+pub record IsBlank (o : Open) : Type 0 where
+  pub reasoned : (p : Problem) → AreReasoned p o
+  pub unkept : o.kept ≡ None
+
+-- what every legal history keeps, and what backs the scopes
 pub record IsWhole (m : Machine) : Type 0 where
   pub kept : IsKept (state_of m)
-  pub reasoned : AreReasoned m.engine.problem m.scopes
+  pub backed : IsBacked m.engine m.scopes
 
--- a step of the state, which keeps the reasons
+-- a step of the state, which keeps what backs the scopes
 pub record Moves (old : Machine) (call : Call) (answer : Reply) (new : Machine) : Type 0 where
   pub step : Step (state_of old) call answer (state_of new)
-  pub reasoned : AreReasoned old.engine.problem old.scopes → AreReasoned new.engine.problem new.scopes
+  pub backed : IsBacked old.engine old.scopes → IsBacked new.engine new.scopes

@@ -20,7 +20,7 @@ impl Machine {
             Call::Vars(n) => self.vars(*n),
             Call::Add(c) => self.add(c),
             Call::NewGuard => self.new_guard(),
-            Call::Under(g, c) => self.under(*g, c),
+            Call::Under(guards, c) => self.under(guards, c),
             Call::DropGuard(g) => self.drop_guard(*g),
             Call::Assume(lits) => self.assume(lits),
             Call::Test => self.test(),

@@ -1,6 +1,7 @@
 //! Calls that ask, and those that a solve answers.
 
 ghost use Rattle.std.specs.Prelude.{◌≡◌, ◌+◌, ◌-◌, ◌*◌, ◌≤◌, if◌then◌else◌, None, IfOk, length, slice_index_or, []};
+ghost use Rattle.gi_lit.specs.Literals.{max_var};
 ghost use Rattle.gi_model.specs.History.{MayCome};
 ghost use Rattle.gi_model.specs.Refusals.{refuses};
 ghost use Rattle.gi_model.specs.declared.calls.Call.TheVariants as call;
@@ -31,7 +32,7 @@ fn known_clause(alloc: Global, engine: &Engine, i: u32) -> Result<Lits, AllocErr
 
 /// The true literal of each problem variable, rising.
 fn true_literals(alloc: Global, engine: &Engine, values: &Assign) -> Result<Lits, AllocError>
-    requires { length values.now ≤ 1048576 }
+    requires { length values.now ≤ max_var }
     ensures { IfOk result (λ ls. ls ≡ model_of engine.now.problem values.now) }
 {
     let mut lits = Lits::new(alloc);

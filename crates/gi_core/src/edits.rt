@@ -2,6 +2,7 @@
 
 ghost use Rattle.std.specs.Prelude.{◌≡◌, ◌++◌, None, OnOk, max};
 ghost use Rattle.gi_lit.specs.Problem.{grown, top};
+ghost use Rattle.gi_model.specs.History.{MayCome};
 ghost use Rattle.gi_model.specs.Refusals.{refuses};
 ghost use Rattle.gi_model.specs.declared.calls.Call.TheVariants as call;
 ghost use Rattle.gi_core.specs.View.{state_of, IsWhole, Moves};
@@ -9,7 +10,7 @@ ghost use Rattle.gi_core.specs.View.{state_of, IsWhole, Moves};
 use crate::engine::Engine;
 use crate::lists::append;
 use crate::machine::Machine;
-use gi_lit::{Lit, Lits, Var, top_variable};
+use gi_lit::{Guards, Lit, Lits, Var, top_variable};
 use gi_model::Reply;
 use gi_scopes::laws::more_clauses_keep_reasons;
 use std::alloc::AllocError;
@@ -45,6 +46,7 @@ impl Machine {
         more_clauses_keep_reasons();
         match self.engine.add(c.as_slice()) {
             Ok(()) => {
+                self.scopes.edited();
                 self.task.forget();
                 Reply::Done
             }
@@ -81,13 +83,15 @@ impl Machine {
         }
     }
 
-    pub fn under(&mut self, g: Var, c: &Lits) -> Reply
-        requires { refuses (state_of self.old) (call.Under g c.now) ≡ None }
-        ensures { Moves self.old (call.Under g c.now) result self.new }
+    pub fn under(&mut self, guards: &Guards, c: &Lits) -> Reply
+        requires comes { MayCome (state_of self.old) (call.Under guards.now c.now) }
+        requires free { refuses (state_of self.old) (call.Under guards.now c.now) ≡ None }
+        ensures { Moves self.old (call.Under guards.now c.now) result self.new }
     {
         more_clauses_keep_reasons();
-        match self.engine.add_under(g, c.as_slice()) {
+        match self.engine.add_under(guards.as_slice(), c.as_slice()) {
             Ok(()) => {
+                self.scopes.edited();
                 self.task.forget();
                 Reply::Done
             }
@@ -101,6 +105,7 @@ impl Machine {
         ensures { Moves self.old (call.DropGuard g) result self.new }
     {
         self.engine.remove_guard(g);
+        self.scopes.edited();
         self.task.forget();
         Reply::Done
     }

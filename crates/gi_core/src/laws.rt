@@ -1,9 +1,8 @@
 //! Laws over what the steps of a new machine make, each the contract of a function that does nothing.
 
-ghost use Rattle.gi_core.specs.Laws.{StepsAreLegal, StepsKeep, StepsTell, StepsGiveCleanGuards, SolvesStayShort, SolvesEndShort};
+ghost use Rattle.gi_core.specs.Laws.{StepsAreLegal, StepsKeep, StepsTell, StepsGiveCleanGuards};
 
-use gi_lit::laws::fresh_clauses_are_few;
-use gi_model::{guards_are_clean, learnt_clauses_are_told, solves_are_short};
+use gi_model::{guards_are_clean, learnt_clauses_are_told};
 
 /// The steps of a new machine are a legal history, and its state is the one after it.
 pub fn steps_are_legal()
@@ -27,19 +26,4 @@ pub fn steps_give_clean_guards()
     ensures { StepsGiveCleanGuards }
 {
     guards_are_clean();
-}
-
-/// Over n variables a solve learns at most 3^n clauses, while no edit is accepted.
-pub fn solves_stay_short()
-    ensures { SolvesStayShort }
-{
-    solves_are_short();
-}
-
-/// And at its end it has learnt no more than that, the last slice counted: the news since its start are at most 3^n, however it ended. So where it
-/// ended out of budget its budget was at most 3^n.
-pub fn solves_end_short()
-    ensures { SolvesEndShort }
-{
-    fresh_clauses_are_few();
 }

@@ -10,7 +10,6 @@ pub mod laws;
 mod lists;
 mod loading;
 mod looking;
-mod luby;
 mod machine;
 mod refusals;
 mod shell;

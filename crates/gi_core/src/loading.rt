@@ -71,6 +71,7 @@ impl Machine {
         }
         match self.engine.load(file.vars, clauses) {
             Ok(()) => {
+                self.scopes.edited();
                 self.task.forget();
                 Reply::LoadedCnf {
                     vars: file.vars,

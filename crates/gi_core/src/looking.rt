@@ -1,20 +1,22 @@
 //! What is read of an engine.
 
-ghost use Rattle.std.specs.Prelude.{◌≡◌, ◌+◌, ◌==◌, ◌&&◌, ◌||◌, ◌≤◌, not, nat_le, nat_lt, length, List, ℕ, option_copied};
+ghost use Rattle.std.specs.Prelude.{◌≡◌, ◌+◌, ◌-◌, ◌==◌, ◌&&◌, ◌||◌, ◌≤◌, not, nat_le, nat_lt, length, List, ℕ, option_copied};
 ghost use Rattle.std.specs.List.{list_any, sum_by};
-ghost use Rattle.gi_lit.specs.Problem.{has, is_problem_var, is_usable, is_guard_lit, clause_count, lit_count};
+ghost use Rattle.gi_lit.specs.Problem.{has, is_problem_var, is_usable, is_guard_lit, as_given, clause_count, lit_count};
 ghost use Rattle.gi_store.specs.Held.{at_place};
-ghost use Rattle.gi_model.specs.Limits.{most_vars, most_clauses, most_lits};
+ghost use Rattle.gi_model.specs.Limits.{most_clauses, most_lits};
+ghost use Rattle.gi_lit.specs.Literals.{max_var};
 ghost use Rattle.gi_model.specs.Refusals.{some_unusable, is_full};
 ghost use Rattle.gi_core.specs.Content.{content_of};
 
 use crate::engine::Engine;
 use gi_lit::{Clause, Lit, MAX_VAR, Var, top_variable};
-use gi_store::{Store, VarKind};
+use gi_model::{MAX_CLAUSES, MAX_LITS};
+use gi_store::Store;
 
 /// How many literals the clauses have.
 fn count_lits(clauses: &[Clause]) -> usize
-    requires { sum_by length clauses.now ≤ 67108864 }
+    requires { sum_by length clauses.now ≤ most_lits }
     ensures { result ≡ sum_by length clauses.now }
 {
     let mut count = 0;
@@ -22,6 +24,13 @@ fn count_lits(clauses: &[Clause]) -> usize
         count += clause.len();
     }
     count
+}
+
+/// How many literals a clause under guards has as given: its own, and one for each guard after the first.
+fn count_given(guards: &[Var], clause: &[Lit]) -> u128
+    ensures { result ≡ length clause.now + (length guards.now - 1) }
+{
+    clause.len() as u128 + guards.len().saturating_sub(1) as u128
 }
 
 impl Engine {
@@ -76,13 +85,34 @@ impl Engine {
             .any(|l| !(self.is_usable(*l) || self.is_guard_lit(*l)))
     }
 
-    /// Whether one clause more, with these literals, would be too much.
+    /// Whether some guard isn't active.
+    pub fn some_inactive(&self, guards: &[Var]) -> bool
+        ensures { result ≡ list_any (λ g. not (has self.now.problem.active g)) guards.now }
+    {
+        guards.iter().any(|g| !self.is_active(*g))
+    }
+
+    /// Whether one plain clause more would be too much.
     pub fn is_full(&self, clause: &[Lit]) -> bool
-        ensures { result ≡ is_full self.now.problem clause.now }
+        ensures { result ≡ is_full self.now.problem clause.now (length clause.now) }
+    {
+        self.is_full_with(clause, clause.len() as u128)
+    }
+
+    /// Whether one clause more under these guards would be too much.
+    pub fn is_full_under(&self, guards: &[Var], clause: &[Lit]) -> bool
+        ensures { result ≡ is_full self.now.problem clause.now (as_given (record { guards = guards.now; clause = clause.now })) }
+    {
+        self.is_full_with(clause, count_given(guards, clause))
+    }
+
+    /// Whether one clause more, of these literals and with so many as given, would be too much.
+    fn is_full_with(&self, clause: &[Lit], lits: u128) -> bool
+        ensures { result ≡ is_full self.now.problem clause.now lits }
     {
         top_variable(clause) > MAX_VAR
-            || self.store.problem() >= 4_194_304
-            || self.lacks_lits(clause.len())
+            || self.store.problem() >= MAX_CLAUSES
+            || self.lacks_lits(lits)
     }
 
     /// Whether some clause has a literal that isn't usable.
@@ -94,10 +124,10 @@ impl Engine {
 
     /// Whether these clauses more would be too many, or have too many literals.
     pub fn lacks_room(&self, clauses: &[Clause]) -> bool
-        requires { sum_by length clauses.now ≤ 67108864 }
+        requires { sum_by length clauses.now ≤ most_lits }
         ensures { result ≡ (nat_lt most_clauses (clause_count self.now.problem + length clauses.now) || nat_lt most_lits (lit_count self.now.problem + sum_by length clauses.now)) }
     {
-        self.lacks_clauses(clauses.len()) || self.lacks_lits(count_lits(clauses))
+        self.lacks_clauses(clauses.len()) || self.lacks_lits(count_lits(clauses) as u128)
     }
 
     /// Whether so many clauses more would be too many.
@@ -106,23 +136,23 @@ impl Engine {
     {
         match self.store.problem().checked_add(count as u64) {
             None => true,
-            Some(clauses) => clauses > 4_194_304,
+            Some(clauses) => clauses > MAX_CLAUSES,
         }
     }
 
     /// Whether so many literals more would be too many.
-    fn lacks_lits(&self, count: usize) -> bool
+    fn lacks_lits(&self, count: u128) -> bool
         ensures { result ≡ nat_lt most_lits (lit_count self.now.problem + count) }
     {
-        match self.store.lits().checked_add(count as u64) {
+        match u128::from(self.store.lits()).checked_add(count) {
             None => true,
-            Some(lits) => lits > 67_108_864,
+            Some(lits) => lits > u128::from(MAX_LITS),
         }
     }
 
     /// Whether no guard is left to hand out.
     pub fn lacks_guard(&self) -> bool
-        ensures { result ≡ ((length self.now.problem.freed == 0) && nat_le most_vars self.now.problem.vars) }
+        ensures { result ≡ ((length self.now.problem.freed == 0) && nat_le max_var self.now.problem.vars) }
     {
         if self.vars() < MAX_VAR {
             return false;
@@ -130,27 +160,11 @@ impl Engine {
         !self.has_freed()
     }
 
-    /// Whether some guard was freed. In time linear in the greatest variable: it is asked only once no variable is left.
+    /// Whether a guard was freed and not handed out again.
     fn has_freed(&self) -> bool
         ensures { result ≡ not (length self.now.problem.freed == 0) }
     {
-        let _vars = self.store.vars();
-        for index in 1..1_048_577 {
-            if let Some(v) = Var::new(index)
-                && self.is_freed(v)
-            {
-                return true;
-            }
-        }
-        false
-    }
-
-    /// Whether the variable is a freed guard.
-    fn is_freed(&self, v: Var) -> bool
-        ensures { result ≡ has self.now.problem.freed v }
-    {
-        let _vars = self.store.vars();
-        matches!(self.store.kind(v), VarKind::Freed)
+        self.store.has_freed()
     }
 
     /// How many learnt clauses there are.

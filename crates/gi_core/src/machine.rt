@@ -1,9 +1,7 @@
 ghost use Rattle.std.specs.Prelude.{◌≡◌};
-ghost use Rattle.gi_lit.specs.Problem.{Problem};
 ghost use Rattle.gi_model.specs.State.{opening, dead_state, phase_of};
-ghost use Rattle.gi_scopes.specs.Open.{AreReasoned};
 ghost use Rattle.gi_core.specs.Task.{life_of};
-ghost use Rattle.gi_core.specs.View.{state_of};
+ghost use Rattle.gi_core.specs.View.{state_of, IsBlank};
 
 use crate::engine::Engine;
 use crate::task::{Flag, Task};
@@ -21,8 +19,6 @@ pub struct Machine {
     pub pending: Lits,
     pub task: Task,
     pub serial: u64,
-    /// How many slices of work the solve under way had.
-    pub slices: u32,
     pub flag: Flag,
 }
 
@@ -30,7 +26,7 @@ impl Machine {
     /// A new machine, in this state of life.
     fn made(alloc: Global, flag: Flag) -> Machine
         ensures state { state_of result ≡ record opening { life = life_of flag } }
-        ensures reasoned { (p : Problem) → AreReasoned p result.scopes }
+        ensures blank { IsBlank result.scopes }
     {
         Machine {
             alloc,
@@ -39,7 +35,6 @@ impl Machine {
             pending: Lits::new(alloc),
             task: Task::Idle,
             serial: 0,
-            slices: 0,
             flag,
         }
     }
@@ -47,7 +42,7 @@ impl Machine {
     /// A new machine.
     pub fn new(alloc: Global) -> Machine
         ensures state { state_of result ≡ opening }
-        ensures reasoned { (p : Problem) → AreReasoned p result.scopes }
+        ensures blank { IsBlank result.scopes }
     {
         Machine::made(alloc, Flag::Alive)
     }
@@ -56,7 +51,7 @@ impl Machine {
     pub fn die(&mut self) -> Reply
         ensures value { result ≡ Reply.NoMemory }
         ensures state { state_of self.new ≡ dead_state }
-        ensures reasoned { (p : Problem) → AreReasoned p self.new.scopes }
+        ensures blank { IsBlank self.new.scopes }
     {
         *self = Machine::made(self.alloc, Flag::Dead);
         Reply::NoMemory

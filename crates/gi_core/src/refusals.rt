@@ -1,9 +1,9 @@
 ghost use Rattle.std.specs.Prelude.{◌≡◌, ◌≤◌, ◌+◌, ◌&&◌, nat_lt, not, length, false};
 ghost use Rattle.std.specs.List.{list_any};
 ghost use Rattle.gi_lit.specs.Problem.{has};
-ghost use Rattle.gi_model.specs.Limits.{most_pending};
+ghost use Rattle.gi_model.specs.Limits.{most_pending, most_scopes};
 ghost use Rattle.gi_model.specs.State.{listed_in};
-ghost use Rattle.gi_model.specs.Refusals.{is_over, admits, while_running, while_paused, is_scoped, has_bad_lit, is_not_guard, is_held, is_beyond, lacks_scope, is_unlisted, needs_solve, is_none_yet, lacks_model, lacks_clause, is_work, has_model};
+ghost use Rattle.gi_model.specs.Refusals.{is_over, admits, is_scoped, has_bad_lit, is_not_guard, is_held, is_beyond, lacks_scope, is_unlisted, needs_solve, is_none_yet, lacks_model, lacks_clause, has_model};
 ghost use Rattle.gi_model.specs.History.{is_load};
 ghost use Rattle.gi_core.specs.Early.{early};
 ghost use Rattle.gi_core.specs.Lacking.{lacking};
@@ -13,74 +13,7 @@ use crate::lists::has_lit;
 use crate::machine::Machine;
 use crate::task::{Flag, Task};
 use gi_lit::{MAX_VAR, top_variable};
-use gi_model::{Call, Refusal, Verdict};
-
-/// What a running solve admits.
-fn while_running(call: &Call) -> bool
-    ensures { result ≡ while_running call.now }
-{
-    match call {
-        Call::Pause => true,
-        Call::Resume => true,
-        Call::Stop => true,
-        Call::Poll => true,
-        Call::Wait => true,
-        Call::Model => true,
-        Call::Known => true,
-        Call::KnownClause(_) => true,
-        Call::Reasons(_) => true,
-        Call::Bye => true,
-        Call::Shut => true,
-        _ => false,
-    }
-}
-
-/// What a paused solve admits.
-fn while_paused(call: &Call) -> bool
-    ensures { result ≡ while_paused call.now }
-{
-    match call {
-        Call::Vars(_) => true,
-        Call::Add(_) => true,
-        Call::NewGuard => true,
-        Call::Under(_, _) => true,
-        Call::DropGuard(_) => true,
-        _ => while_running(call),
-    }
-}
-
-/// The calls that speak of a solve.
-fn needs_solve(call: &Call) -> bool
-    ensures { result ≡ needs_solve call.now }
-{
-    match call {
-        Call::Pause => true,
-        Call::Resume => true,
-        Call::Stop => true,
-        Call::Poll => true,
-        Call::Wait => true,
-        _ => false,
-    }
-}
-
-fn is_work(call: &Call) -> bool
-    ensures { result ≡ is_work call.now }
-{
-    match call {
-        Call::Work(_) => true,
-        _ => false,
-    }
-}
-
-/// The calls with a payload.
-fn is_load(call: &Call) -> bool
-    ensures { result ≡ is_load call.now }
-{
-    match call {
-        Call::LoadCnf(_) => true,
-        _ => false,
-    }
-}
+use gi_model::{Call, MAX_PENDING, MAX_SCOPES, MAX_SOLVES, Refusal, Verdict};
 
 /// Whether two counts together are too many pending assumptions.
 fn too_many(a: usize, b: usize) -> bool
@@ -88,7 +21,7 @@ fn too_many(a: usize, b: usize) -> bool
 {
     match a.checked_add(b) {
         None => true,
-        Some(n) => n > 1_048_576,
+        Some(n) => n > MAX_PENDING,
     }
 }
 
@@ -109,13 +42,13 @@ impl Machine {
         match &self.task {
             Task::Idle => true,
             Task::Ended(_, _) => true,
-            Task::Paused(_) => while_paused(call),
-            Task::Running(_) => while_running(call),
+            Task::Paused(_) => call.while_paused(),
+            Task::Running(_) => call.while_running(),
         }
     }
 
     fn is_scoped(&self, call: &Call) -> bool
-        requires { length self.now.scopes.scopes ≤ 65536 }
+        requires { length self.now.scopes.scopes ≤ most_scopes }
         ensures { result ≡ is_scoped (state_of self.now).scopes call.now }
     {
         match call {
@@ -141,7 +74,7 @@ impl Machine {
         ensures { result ≡ is_not_guard (state_of self.now).problem call.now }
     {
         match call {
-            Call::Under(g, _) => !self.engine.is_active(*g),
+            Call::Under(guards, _) => self.engine.some_inactive(guards.as_slice()),
             Call::DropGuard(g) => !self.engine.is_active(*g),
             _ => false,
         }
@@ -164,7 +97,7 @@ impl Machine {
     }
 
     fn is_beyond(&self, call: &Call) -> bool
-        requires scopes { length self.now.scopes.scopes ≤ 65536 }
+        requires scopes { length self.now.scopes.scopes ≤ most_scopes }
         requires unread { is_load call.now ≡ false }
         ensures { result ≡ is_beyond (state_of self.now) call.now }
     {
@@ -172,18 +105,18 @@ impl Machine {
             Call::Vars(n) => *n > MAX_VAR,
             Call::Add(c) => self.engine.is_full(c.as_slice()),
             Call::NewGuard => self.engine.lacks_guard(),
-            Call::Under(_, c) => self.engine.is_full(c.as_slice()),
+            Call::Under(guards, c) => self.engine.is_full_under(guards.as_slice(), c.as_slice()),
             Call::Assume(lits) => {
                 top_variable(lits.as_slice()) > MAX_VAR || too_many(self.pending.len(), lits.len())
             }
-            Call::Test => self.scopes.depth() >= 65_536,
-            Call::Solve(_) => self.serial >= 72_057_594_037_927_936,
+            Call::Test => self.scopes.depth() as usize >= MAX_SCOPES,
+            Call::Solve(_) => self.serial >= MAX_SOLVES,
             _ => false,
         }
     }
 
     fn lacks_scope(&self, call: &Call) -> bool
-        requires { length self.now.scopes.scopes ≤ 65536 }
+        requires { length self.now.scopes.scopes ≤ most_scopes }
         ensures { result ≡ lacks_scope (state_of self.now).scopes call.now }
     {
         match call {
@@ -204,7 +137,7 @@ impl Machine {
     fn lacks_solve(&self, call: &Call) -> bool
         ensures { result ≡ (needs_solve call.now && is_none_yet (state_of self.now).solve) }
     {
-        needs_solve(call)
+        call.needs_solve()
             && match &self.task {
                 Task::Idle => true,
                 Task::Running(_) => false,
@@ -243,10 +176,10 @@ impl Machine {
     /// The refusal that the table names: the first whose condition holds. Of a call with a payload, only those that come before the payload is
     /// read.
     pub fn refusal(&self, call: &Call) -> Option<Refusal>
-        requires { length self.now.scopes.scopes ≤ 65536 }
+        requires { length self.now.scopes.scopes ≤ most_scopes }
         ensures { result ≡ early (state_of self.now) call.now }
     {
-        if is_work(call) {
+        if call.is_work() {
             return None;
         }
         if self.is_over() {
@@ -255,7 +188,7 @@ impl Machine {
         if !self.admits(call) {
             return Some(Refusal::Busy);
         }
-        if is_load(call) {
+        if call.is_load() {
             return None;
         }
         if self.is_scoped(call) {
@@ -278,7 +211,7 @@ impl Machine {
 
     /// The refusals for what isn't there.
     fn lacks(&self, call: &Call) -> Option<Refusal>
-        requires scopes { length self.now.scopes.scopes ≤ 65536 }
+        requires scopes { length self.now.scopes.scopes ≤ most_scopes }
         requires unread { is_load call.now ≡ false }
         ensures { result ≡ lacking (state_of self.now) call.now }
     {

@@ -1,14 +1,14 @@
-ghost use Rattle.std.specs.Prelude.{◌≡◌, true};
+ghost use Rattle.std.specs.Prelude.{◌≡◌, ◌≢◌, true};
 ghost use Rattle.gi_model.specs.State.{opening, phase_of};
 ghost use Rattle.gi_model.specs.Fits.{fits};
-ghost use Rattle.gi_model.specs.History.{MayCome, Step};
+ghost use Rattle.gi_model.specs.History.{Step};
 ghost use Rattle.gi_model.specs.Kept.{IsKept};
 ghost use Rattle.gi_core.specs.Ending.{IsNews};
 
 use crate::machine::Machine;
 use crate::solving::Work;
 use gi_cdcl::Brake;
-use gi_model::{Call, Phase, Reply};
+use gi_model::{Call, Phase, Reply, calls_may_come};
 use std::alloc::Global;
 use std::marker::Model;
 
@@ -59,17 +59,18 @@ impl Core {
     /// first, so want of memory may come in the place of a refusal of what it says.
     pub fn step(&mut self, call: &Call) -> Reply
         requires fits { fits call.now ≡ true }
-        requires wait { MayCome self.old call.now }
+        requires wait { call.now ≡ Call.Wait → phase_of self.old ≢ Phase.Live }
         ensures { Step self.old call.now result self.new }
     {
+        calls_may_come();
         match self.machine.refusal(call) {
             Some(refusal) => Reply::Refused(refusal),
             None => self.machine.accept(call),
         }
     }
 
-    /// A slice of work on the running solve, with a brake that wasn't asked yet; `Idle` exactly where none is running. The slice learns as many
-    /// clauses as its place in the solve allows: 32 times its Luby number, at most 1,024, and at most what is left of the budget.
+    /// A slice of work on the running solve, with a brake that wasn't asked yet; `Idle` exactly where none is running. The slice learns no more clauses
+    /// than 32 times the Luby number of its place in the solve, than 1,024, and than what is left of the budget.
     pub fn work<B: Brake>(&mut self, brake: &mut B) -> Work
         requires { (B.top brake.old ≡ 0) × (B.asks brake.old ≡ 0) }
         ensures step { Step self.old (Call.Work result.mark) result.reply self.new }

@@ -1,22 +1,22 @@
 //! The start of a solve, and the work on it.
 
 ghost use Rattle.std.specs.Prelude.{◌≡◌, ◌≢◌, ◌+◌, ◌<◌, ◌≤◌, ◌↔◌, ℕ, ◌*◌, min, None, IfOk, length, is_some, IsTrue};
+ghost use Rattle.gi_model.specs.Limits.{most_news};
+ghost use Rattle.gi_model.specs.Luby.{IsLuby};
 ghost use Rattle.gi_model.specs.State.{all_assumed, live_run};
 ghost use Rattle.gi_model.specs.History.{MayCome};
 ghost use Rattle.gi_model.specs.Refusals.{refuses};
 ghost use Rattle.gi_model.specs.declared.calls.Call.TheVariants as call;
 ghost use Rattle.gi_core.specs.Ending.{verdict_of, Settles, IsNews};
-ghost use Rattle.gi_core.specs.Luby.{IsLuby};
 ghost use Rattle.gi_core.specs.View.{state_of, IsWhole, Moves};
 
 use crate::engine::is_lost;
 use crate::lists::append;
-use crate::luby::luby;
 use crate::machine::Machine;
 use crate::task::{Flag, Job, Task, copy_verdict};
 use gi_cdcl::{Brake, Slice, Sliced};
 use gi_lit::{Clauses, Lits};
-use gi_model::{Cause, Now, Reply, Verdict};
+use gi_model::{Cause, MAX_NEWS, Now, Reply, Verdict, luby};
 use std::alloc::AllocError;
 use std::mem;
 
@@ -29,15 +29,19 @@ pub struct Work {
 
 /// How many clauses the next slice may learn: 32 times the Luby number of its place among the slices of its solve, at most 1,024, and at most what
 /// is left of the budget.
-fn most_news(slices: u32, left: u32) -> u32
+fn slice_limit(slices: u32, left: u32) -> u32
     requires { 1 ≤ left }
     ensures low { 1 ≤ result }
-    ensures high { result ≤ 1024 }
+    ensures high { result ≤ most_news }
     ensures within { result ≤ left }
-    ensures pace { (n : ℕ) × IsLuby (slices + 1) n × (result ≡ min (min (32 * n) 1024) left) }
+    ensures pace { (n : ℕ) × IsLuby (slices + 1) n × (result ≡ min (min (32 * n) most_news) left) }
 {
     let pace = luby(slices);
-    let wanted = if pace > 32 { 1024 } else { 32 * pace as u32 };
+    let wanted = if pace > 32 {
+        MAX_NEWS
+    } else {
+        32 * pace as u32
+    };
     wanted.min(left)
 }
 
@@ -77,12 +81,12 @@ impl Machine {
                 self.engine.trim();
                 self.pending = Lits::new(self.alloc);
                 self.serial += 1;
-                self.slices = 0;
                 self.task = Task::Running(Job {
                     serial: self.serial,
                     assumed,
                     budget,
                     spent: 0,
+                    slices: 0,
                 });
                 Reply::Started(self.serial)
             }
@@ -133,11 +137,10 @@ impl Machine {
         ensures follows { B.follows brake.old brake.new }
         ensures asks { IsNews (B.asks brake.new) result.reply }
     {
-        let limit = most_news(self.slices, job.budget - job.spent);
+        let limit = slice_limit(job.slices, job.budget - job.spent);
         let Sliced { news, mark, end } = self
             .engine
             .slice(job.assumed.as_slice(), limit, job.serial, brake);
-        self.slices = self.slices.saturating_add(1);
         if is_lost(&end) {
             return Work {
                 mark,
@@ -152,7 +155,8 @@ impl Machine {
 
     /// What a slice leaves of its solve, and its answer.
     fn settle(&mut self, job: Job, news: Clauses, mark: u64, end: Slice) -> Reply
-        requires { job.spent + length news ≤ job.budget }
+        requires budget { job.spent + length news ≤ job.budget }
+        requires slices { job.slices < job.budget }
         ensures { Settles self.old job news (verdict_of end mark (job.spent + length news) job.budget) result self.new }
     {
         let spent = job.spent + news.len() as u32;
@@ -163,6 +167,7 @@ impl Machine {
                     assumed: job.assumed,
                     budget: job.budget,
                     spent,
+                    slices: job.slices + 1,
                 });
                 Reply::Worked {
                     news,

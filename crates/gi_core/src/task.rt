@@ -16,6 +16,8 @@ pub struct Job {
     pub assumed: Lits,
     pub budget: u32,
     pub spent: u32,
+    /// In how many slices of work.
+    pub slices: u32,
 }
 
 /// The solve.

@@ -6,6 +6,8 @@ ghost use Rattle.gi_model.specs.State.{scope_assumed};
 ghost use Rattle.gi_model.specs.Refusals.{refuses};
 ghost use Rattle.gi_model.specs.declared.calls.Call.TheVariants as call;
 ghost use Rattle.gi_scopes.specs.Open.{AreReasoned, StillFail};
+ghost use Rattle.gi_scopes.specs.Under.{base_of};
+ghost use Rattle.gi_scopes.specs.Built.{IsFor};
 ghost use Rattle.gi_scopes.specs.Answers.{Answers, Opens};
 ghost use Rattle.gi_core.specs.View.{state_of, IsWhole, Moves};
 
@@ -27,9 +29,11 @@ fn tested<L: Ledger>(scopes: &mut Scopes, store: &Store, assumed: Lits, blank: B
     requires assumed { IsWithin store.now.vars assumed }
     requires open { IsWithin store.now.vars (scope_assumed scopes.old.scopes) }
     requires failing { StillFail (problem_of store.now) scopes.old.scopes }
+    requires kept { IsFor scopes.old.kept scopes.old.scopes (base_of store.now) }
     ensures answers { Answers (problem_of store.now) scopes.old.scopes assumed result }
     ensures opens { Opens scopes.old assumed result scopes.new }
     ensures reasons { AreReasoned (problem_of store.now) scopes.old → AreReasoned (problem_of store.now) scopes.new }
+    ensures kept { IsFor scopes.new.kept scopes.new.scopes (base_of store.now) }
 {
     let mut steps = Steps::<L>::new(blank);
     scopes.test(store, assumed, &mut steps)

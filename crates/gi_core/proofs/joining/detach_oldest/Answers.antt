@@ -2,7 +2,8 @@ use Rattle.std.proofs.Common.{◌≡◌, ◌/◌, ℕ, length, sym, subst, arith
 use Rattle.std.proofs.lemmas.List.{length-map}
 use Rattle.gi_store.specs.Held.{Entry}
 use Rattle.gi_prop.specs.Attached.{IsAttached, Detaches}
-use Rattle.gi_core.proofs.Keys.{HasKeys, later, later_start, later_attached, later_drop, later_end, got_learnt}
+use Rattle.gi_core.specs.Joined.{HasKeys}
+use Rattle.gi_core.proofs.Keys.{later, later_start, later_attached, later_drop, later_end, got_learnt, learnt_there}
 use Rattle.gi_core.proofs.joining.detach_oldest.Goals as goal
 
 pub detach-requires : goal.detach-requires
@@ -26,5 +27,11 @@ returns-clause-attached c =
     let half : c.loop-i.i ≡ length h.learnt / 2 = omega (arith, length-map h.learnt (λ (e : Entry). e.lits)) in
     later_end c.loop-i.solver h (subst (λ (i : ℕ). HasKeys c.loop-i.solver (later h i)) half c.loop-i.invariant.keys)
 
+pub unreachable-requires : goal.unreachable-requires
+unreachable-requires c =
+    let h = c.args.store.now in
+    let past = learnt_there h c.problem-first.result c.loop-i.i c.problem-first.ensures (sym c.in_default.is ∙ c.key_at.ensures) in
+    omega (arith, length-map h.learnt (λ (e : Entry). e.lits))
+
 pub loop-i-init : goal.loop-i-init
-loop-i-init c = record { keys = later_start c.args.solver.now c.args.store.now c.requires.joined.all c.vars-vars.ensures.keys; goes = λ k g. g }
+loop-i-init c = record { keys = later_start c.args.solver.now c.args.store.now c.requires.all c.is_whole.ensures.keys; goes = λ k g. g }

@@ -1,4 +1,5 @@
-use Rattle.gi_core.proofs.Keys.{IsLeft, later}
+use Rattle.gi_core.specs.Joined.{IsLeft}
+use Rattle.gi_core.proofs.Keys.{later}
 use Rattle.gi_core.proofs.joining.detach_oldest.Given as goal
 
 abbrev pub invariant-loop-i : goal.invariant-loop-i

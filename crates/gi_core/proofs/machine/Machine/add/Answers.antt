@@ -6,7 +6,7 @@ use Rattle.gi_model.specs.declared.calls.Call.TheVariants as call
 use Rattle.gi_model.specs.declared.replies.Reply.TheVariants as reply
 use Rattle.gi_model.proofs.Accepting.{accepted_facts}
 use Rattle.gi_core.specs.View.{state_of}
-use Rattle.gi_core.proofs.Moving.{moves_edit, moves_dead}
+use Rattle.gi_core.proofs.Moving.{moves_clauses, moves_dead}
 use Rattle.gi_core.proofs.machine.Machine.add.Goals as goal
 
 pub add-requires : goal.add-requires
@@ -16,7 +16,7 @@ pub returns-in-Ok : goal.returns-in-Ok
 unfolding after
 returns-in-Ok c =
     let m = c.args.self.now in
-    moves_edit c.more_clauses_keep_reasons.ensures m c.add.new.self c.forget.new.self (with_clause c.args.c.now m.engine.problem) (call.Add c.args.c.now) (reply.Done) refl c.requires (refl) refl (rw c.as_slice.ensures at c.in-Ok.ensures) c.forget.ensures (grows_clause c.args.c.now m.engine.problem)
+    moves_clauses c.more_clauses_keep_reasons.ensures m c.add.new.self c.edited.new.self c.forget.new.self (with_clause c.args.c.now m.engine.problem) (call.Add c.args.c.now) (reply.Done) refl c.requires (refl) refl (rw c.as_slice.ensures at c.in-Ok.ensures) c.edited.ensures c.forget.ensures (grows_clause c.args.c.now m.engine.problem)
 
 pub returns-in-Err : goal.returns-in-Err
-returns-in-Err c = moves_dead c.args.self.now c.die.new.self (call.Add c.args.c.now) c.die.result refl c.requires refl c.die.ensures.value c.die.ensures.state c.die.ensures.reasoned
+returns-in-Err c = moves_dead c.args.self.now c.die.new.self (call.Add c.args.c.now) c.die.result refl c.requires refl c.die.ensures.value c.die.ensures.state c.die.ensures.blank

@@ -24,4 +24,4 @@ unfolding after
 returns-in-Ok c = moves_same c.args.self.now (call.KnownClause c.args.i) (reply.Clause c.in-Ok.clause) (step_done (state_of c.args.self.now) (call.KnownClause c.args.i) (reply.Clause c.in-Ok.clause) (state_of c.args.self.now) refl c.requires (ap reply.Clause c.in-Ok.ensures) refl)
 
 pub returns-in-Err : goal.returns-in-Err
-returns-in-Err c = moves_dead c.args.self.now c.die.new.self (call.KnownClause c.args.i) c.die.result refl c.requires refl c.die.ensures.value c.die.ensures.state c.die.ensures.reasoned
+returns-in-Err c = moves_dead c.args.self.now c.die.new.self (call.KnownClause c.args.i) c.die.result refl c.requires refl c.die.ensures.value c.die.ensures.state c.die.ensures.blank

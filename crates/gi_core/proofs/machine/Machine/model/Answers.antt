@@ -14,4 +14,4 @@ pub returns-in-Ok : goal.returns-in-Ok
 returns-in-Ok c = moves_model c.args.self.now c.in-Some.values.now c.in-Ok.lits c.requires.free c.in-Some.ensures.some c.in-Ok.ensures
 
 pub returns-in-Err : goal.returns-in-Err
-returns-in-Err c = moves_dead c.args.self.now c.die.new.self call.Model c.die.result refl c.requires.free refl c.die.ensures.value c.die.ensures.state c.die.ensures.reasoned
+returns-in-Err c = moves_dead c.args.self.now c.die.new.self call.Model c.die.result refl c.requires.free refl c.die.ensures.value c.die.ensures.state c.die.ensures.blank

@@ -19,4 +19,4 @@ returns-in-Ok c =
     moves_edit c.more_clauses_keep_reasons.ensures m c.new_guard.new.self c.forget.new.self (with_guard m.engine.problem) call.NewGuard (reply.Guard c.in-Ok.g) refl c.requires.free (ap reply.Guard c.in-Ok.ensures.guard) refl (c.in-Ok.ensures.made) c.forget.ensures (grows_guard m.engine.problem m.engine.problem.freed refl c.requires.whole.kept.clauses)
 
 pub returns-in-Err : goal.returns-in-Err
-returns-in-Err c = moves_dead c.args.self.now c.die.new.self call.NewGuard c.die.result refl c.requires.free refl c.die.ensures.value c.die.ensures.state c.die.ensures.reasoned
+returns-in-Err c = moves_dead c.args.self.now c.die.new.self call.NewGuard c.die.result refl c.requires.free refl c.die.ensures.value c.die.ensures.state c.die.ensures.blank

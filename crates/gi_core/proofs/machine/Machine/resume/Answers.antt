@@ -10,4 +10,4 @@ pub returns : goal.returns
 returns c =
     let m = c.args.self.now in
     let e = c.resume.ensures ∙ ap (λ t. resuming (solve_of t)) c.replace.ensures.value in
-    record { step = resume_step (state_of m) (state_of (record m { task = c.resume.result })) c.status.result c.requires (c.status.ensures ∙ ap status_of e) (rw e refl); reasoned = λ r. r }
+    record { step = resume_step (state_of m) (state_of (record m { task = c.resume.result })) c.status.result c.requires (c.status.ensures ∙ ap status_of e) (rw e refl); backed = λ b. b }

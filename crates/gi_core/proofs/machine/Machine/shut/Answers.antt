@@ -9,4 +9,4 @@ use Rattle.gi_core.proofs.machine.Machine.shut.Goals as goal
 
 pub returns : goal.returns
 unfolding after
-returns c = record { step = step_done (state_of c.args.self.now) call.Shut reply.Done (state_of (record c.args.self.now { flag = Shut })) refl c.requires refl refl; reasoned = λ r. r }
+returns c = record { step = step_done (state_of c.args.self.now) call.Shut reply.Done (state_of (record c.args.self.now { flag = Shut })) refl c.requires refl refl; backed = λ b. b }

@@ -15,7 +15,7 @@ pub returns-then-lacks_room : goal.returns-then-lacks_room
 returns-then-lacks_room c = take_limit c.args.self.now c.args.file.now c.requires.whole.kept c.requires.good (sym (rw c.as_slice-clauses.ensures at c.if-some_clause_unusable.ensures)) (sym (rw c.as_slice-clauses.ensures at c.if-lacks_room.ensures))
 
 pub returns-in-Ok : goal.returns-in-Ok
-returns-in-Ok c = rw c.as_slice-clauses.ensures (take_done c.more_clauses_keep_reasons.ensures c.args.self.now c.load.new.self c.forget.new.self c.args.file.now c.requires.whole.kept c.requires.good (sym (rw c.as_slice-clauses.ensures at c.if-some_clause_unusable.ensures)) (sym (rw c.as_slice-clauses.ensures at c.if-lacks_room.ensures)) (rw c.as_slice-clauses.ensures at c.in-Ok.ensures) c.forget.ensures)
+returns-in-Ok c = rw c.as_slice-clauses.ensures (take_done c.more_clauses_keep_reasons.ensures c.args.self.now c.load.new.self c.edited.new.self c.forget.new.self c.args.file.now c.requires.whole.kept c.requires.good (sym (rw c.as_slice-clauses.ensures at c.if-some_clause_unusable.ensures)) (sym (rw c.as_slice-clauses.ensures at c.if-lacks_room.ensures)) (rw c.as_slice-clauses.ensures at c.in-Ok.ensures) c.edited.ensures c.forget.ensures)
 
 pub returns-in-Err : goal.returns-in-Err
-returns-in-Err c = take_dead c.args.self.now c.die.new.self c.args.file.now c.die.result c.requires.whole.kept c.requires.good (sym (rw c.as_slice-clauses.ensures at c.if-some_clause_unusable.ensures)) (sym (rw c.as_slice-clauses.ensures at c.if-lacks_room.ensures)) c.die.ensures.value c.die.ensures.state c.die.ensures.reasoned
+returns-in-Err c = take_dead c.args.self.now c.die.new.self c.args.file.now c.die.result c.requires.whole.kept c.requires.good (sym (rw c.as_slice-clauses.ensures at c.if-some_clause_unusable.ensures)) (sym (rw c.as_slice-clauses.ensures at c.if-lacks_room.ensures)) c.die.ensures.value c.die.ensures.state c.die.ensures.blank

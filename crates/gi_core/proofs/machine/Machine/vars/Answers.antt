@@ -1,5 +1,6 @@
 use Rattle.std.proofs.Common.{◌∙◌, refl, ap}
 use Rattle.std.proofs.lemmas.Bool.{ltb-false}
+use Rattle.gi_lit.specs.Literals.{max_var}
 use Rattle.gi_lit.specs.Problem.{grown}
 use Rattle.gi_lit.proofs.Growing.{grows_grown}
 use Rattle.gi_model.specs.Effects.{after}
@@ -12,7 +13,7 @@ use Rattle.gi_core.proofs.Moving.{moves_edit, moves_dead}
 use Rattle.gi_core.proofs.machine.Machine.vars.Goals as goal
 
 pub grow-requires : goal.grow-requires
-grow-requires c = ltb-false 1048576 c.args.n (accepted_facts (state_of c.args.self.now) (call.Vars c.args.n) refl c.requires).within
+grow-requires c = ltb-false max_var c.args.n (accepted_facts (state_of c.args.self.now) (call.Vars c.args.n) refl c.requires).within
 
 pub returns-in-Ok : goal.returns-in-Ok
 unfolding after
@@ -21,4 +22,4 @@ returns-in-Ok c =
     moves_edit c.more_clauses_keep_reasons.ensures m c.grow.new.self c.forget.new.self (grown c.args.n m.engine.problem) (call.Vars c.args.n) (reply.Vars c.vars.result) refl c.requires (ap reply.Vars (c.vars.ensures ∙ ap (λ (k : Content). k.problem.vars) c.in-Ok.ensures)) refl (c.in-Ok.ensures) c.forget.ensures (grows_grown c.args.n m.engine.problem)
 
 pub returns-in-Err : goal.returns-in-Err
-returns-in-Err c = moves_dead c.args.self.now c.die.new.self (call.Vars c.args.n) c.die.result refl c.requires refl c.die.ensures.value c.die.ensures.state c.die.ensures.reasoned
+returns-in-Err c = moves_dead c.args.self.now c.die.new.self (call.Vars c.args.n) c.die.result refl c.requires refl c.die.ensures.value c.die.ensures.state c.die.ensures.blank

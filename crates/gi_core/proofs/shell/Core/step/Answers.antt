@@ -14,4 +14,7 @@ invariant_of-self c = moves_whole c.self.inside.machine c.accept.new.self c.args
 pub returns-in-Some : goal.returns-in-Some
 returns-in-Some c =
     let P : State → Type 0 = λ s. MayCome s c.args.call.now → Step s c.args.call.now (reply.Refused c.in-Some.refusal) s in
-    subst P c.self.view_is (λ w. step_refused (state_of c.self.inside.machine) c.args.call.now c.in-Some.refusal w (early_refuses (state_of c.self.inside.machine) c.args.call.now c.in-Some.refusal (sym c.in-Some.ensures))) c.requires.wait
+    subst P c.self.view_is (λ w. step_refused (state_of c.self.inside.machine) c.args.call.now c.in-Some.refusal w (early_refuses (state_of c.self.inside.machine) c.args.call.now c.in-Some.refusal (sym c.in-Some.ensures))) (c.calls_may_come.ensures c.args.self.now c.args.call.now c.requires.fits c.requires.wait)
+
+pub accept-requires-clause-comes : goal.accept-requires-clause-comes
+accept-requires-clause-comes c = subst (λ (s : State). MayCome s c.args.call.now) (sym c.self.view_is) (c.calls_may_come.ensures c.args.self.now c.args.call.now c.requires.fits c.requires.wait)

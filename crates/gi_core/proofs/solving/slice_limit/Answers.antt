@@ -1,7 +1,7 @@
 use Rattle.std.proofs.Common.{◌+◌, arith}
-use Rattle.gi_core.proofs.Folding.{luby_low}
-use Rattle.gi_core.proofs.solving.most_news.Goals as goal
-use Rattle.gi_core.proofs.solving.most_news.Goals.{then-pace-gt32, else-pace-gt32}
+use Rattle.gi_model.proofs.Folding.{luby_low}
+use Rattle.gi_core.proofs.solving.slice_limit.Goals as goal
+use Rattle.gi_core.proofs.solving.slice_limit.Goals.{then-pace-gt32, else-pace-gt32}
 
 pub returns-clause-low : goal.returns-clause-low
 returns-clause-low c =

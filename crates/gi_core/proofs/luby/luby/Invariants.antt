@@ -1,6 +1,0 @@
-use Rattle.std.proofs.Common.{◌-◌, ◌+◌}
-use Rattle.gi_core.proofs.Folding.{IsFolded}
-use Rattle.gi_core.proofs.luby.luby.Given as goal
-
-abbrev pub invariant-loop-k : goal.invariant-loop-k
-invariant-loop-k l = IsFolded (l.place + 1) l.left l.size (32 - l._k)
