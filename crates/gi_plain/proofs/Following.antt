@@ -1,24 +1,25 @@
 -- What follows an entry.
 use Rattle.std.proofs.Common.{◌≡◌, ℕ, ◌+◌, ◌<◌, ◌≤◌, ◌↔◌, IsTrue, Bool, true, false, Option, Some, None, List, length, refl, sym, ap, ◌∙◌, subst, arith, ◌⊎◌, inl, inr}
 use Rattle.std.proofs.lemmas.Bool.{ltb-false}
-use Rattle.gi_model.specs.Limits.{most_vars}
+use Rattle.gi_lit.specs.Literals.{max_var}
 use Rattle.gi_model.specs.State.{State, Run, Solve, no_solve, running, paused, ended, Life, alive, shut, dead, dead_state, live_run}
 use Rattle.gi_model.specs.Refusals.{refuses, is_work}
 use Rattle.gi_model.specs.Effects.{after, accepted}
-use Rattle.gi_model.specs.Work.{AnswersWork}
+use Rattle.gi_model.specs.Work.{AnswersWork, EndsWork}
 use Rattle.gi_model.specs.Tests.{AnswersTest, AnswersReasons}
 use Rattle.gi_model.specs.History.{Allows, Replied, Answers, takes_memory}
 use Rattle.gi_model.specs.declared.calls.Call.{Call}
 use Rattle.gi_model.specs.declared.calls.Call.TheVariants as call
 use Rattle.gi_model.specs.declared.replies.Now.{Now}
+use Rattle.gi_model.specs.declared.replies.Now.TheVariants.{Live}
 use Rattle.gi_model.specs.declared.replies.Verdict.{Verdict}
 use Rattle.gi_model.specs.declared.replies.Reply.{Reply}
 use Rattle.gi_model.specs.declared.replies.Reply.TheVariants as reply
 use Rattle.gi_model.specs.declared.refusal.Refusal.{Refusal}
 use Rattle.gi_model.proofs.Accepting.{accepted_facts}
 
-pub vars_room : (s : State) (n : ℕ) → refuses s (call.Vars n) ≡ None → n ≤ most_vars
-vars_room s n h = ltb-false most_vars n (accepted_facts s (call.Vars n) refl h).within
+pub vars_room : (s : State) (n : ℕ) → refuses s (call.Vars n) ≡ None → n ≤ max_var
+vars_room s n h = ltb-false max_var n (accepted_facts s (call.Vars n) refl h).within
 
 -- the solve that is live
 pub live_is_run : (s : State) (r : Run) → s.life ≡ alive → s.solve ≡ running r → live_run s ≡ Some r
@@ -31,6 +32,15 @@ within_budget s mark news now (Some q) r (inr h) e = absurd (let a = h.0 in cc)
 within_budget s mark news now (Some q) r (inl w) e =
     let same : q ≡ r = cc in
     subst (λ (x : Run). x.spent + length news ≤ x.budget) same w.within
+
+-- and learns something where it leaves its solve live
+pub learns_some : (s : State) (mark : ℕ) (news : List (List ℕ)) (now : Now) (o : Option Run) (r : Run) → AnswersWork s o mark (reply.Worked news now) ⊎ ((reply.Worked news now ≡ reply.NoMemory) × (takes_memory s (call.Work mark) ≡ true)) → o ≡ Some r → now ≡ Live → 1 ≤ length news
+learns_some s mark news now None r h e n = absurd cc
+learns_some s mark news now (Some q) r (inr h) e n = absurd (let a = h.0 in cc)
+learns_some s mark news now (Some q) r (inl w) e n =
+    let a : EndsWork s q mark news Live = subst (EndsWork s q mark news) n w.ends in
+    let b : 0 < length news = a.2.0 in
+    omega arith
 
 pub after_refused : (s : State) (k : Call) (answer : Reply) (r : Refusal) → answer ≡ reply.Refused r → s ≡ after s k answer
 unfolding after

@@ -7,7 +7,7 @@ pub mod Trying
 pub mod Saturating
 pub mod Leaving
 pub mod Fresh
-pub mod Pairs
+pub mod Groups
 pub mod Telling
 pub mod Causes
 pub mod Explaining

@@ -11,7 +11,8 @@ use Rattle.gi_dimacs.specs.Answers.{IsFault}
 use Rattle.gi_dimacs.specs.Relation.{IsCnf}
 use Rattle.gi_dimacs.specs.Texts.{cnf_file}
 use Rattle.gi_dimacs.proofs.Accepting.{file_is_read}
-use Rattle.gi_model.specs.Limits.{most_vars, most_clauses, most_lits}
+use Rattle.gi_model.specs.Limits.{most_clauses, most_lits}
+use Rattle.gi_lit.specs.Literals.{max_var}
 use Rattle.gi_model.specs.Loads.{loaded}
 use Rattle.gi_model.specs.Refusals.{is_past}
 use Rattle.gi_model.proofs.Loading.{past_not}
@@ -61,9 +62,9 @@ lits_with (c ∷ cs) p =
     let m = sum_by-append (λ (c : List ℕ). length c) (c ∷ []) cs in
     omega arith
 
-pub fits_vars : (cs : List (List ℕ)) (vars : ℕ) (p : Problem) → is_past (with_clauses cs (grown vars p)) ≡ false → vars ≤ most_vars
+pub fits_vars : (cs : List (List ℕ)) (vars : ℕ) (p : Problem) → is_past (with_clauses cs (grown vars p)) ≡ false → vars ≤ max_var
 fits_vars cs vars p e = let h = (past_not (with_clauses cs (grown vars p)) e).vars in let v = vars_with cs (grown vars p) in omega arith
 
-pub is_past_by : (cs : List (List ℕ)) (vars : ℕ) (p : Problem) → is_past (with_clauses cs (grown vars p)) ≡ (nat_lt most_vars (max (max p.vars vars) (tops cs)) || nat_lt most_clauses (clause_count p + length cs) || nat_lt most_lits (lit_count p + sum_by length cs))
+pub is_past_by : (cs : List (List ℕ)) (vars : ℕ) (p : Problem) → is_past (with_clauses cs (grown vars p)) ≡ (nat_lt max_var (max (max p.vars vars) (tops cs)) || nat_lt most_clauses (clause_count p + length cs) || nat_lt most_lits (lit_count p + sum_by length cs))
 unfolding lit_count
 is_past_by cs vars p = rw (vars_with cs (grown vars p), clauses_with cs (grown vars p), lits_with cs (grown vars p)) refl

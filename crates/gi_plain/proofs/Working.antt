@@ -1,38 +1,39 @@
 -- What a slice of work may answer.
-use Rattle.std.proofs.Common.{◌≡◌, ℕ, ◌+◌, ◌<◌, ◌≤◌, ◌↔◌, Bool, true, false, not, ◌&&◌, IsTrue, Result, IfOk, List, ◌++◌, length, refl, sym, ap, ◌∙◌, subst, arith}
+use Rattle.std.proofs.Common.{◌≡◌, ℕ, ◌+◌, ◌*◌, ◌<◌, ◌≤◌, ◌↔◌, Bool, true, false, not, ◌&&◌, IsTrue, Result, IfOk, List, ◌++◌, length, refl, sym, ap, ◌∙◌, subst, arith}
 use Rattle.std.specs.List.{list_all}
 use Rattle.gi_lit.specs.Lists.{IsSublist}
 use Rattle.gi_lit.specs.Problem.{force, full}
 use Rattle.gi_lit.specs.Truth.{true_in, clause_true, Satisfies, MakesTrue, Fail}
 use Rattle.gi_lit.specs.Closure.{Conflicts}
-use Rattle.gi_lit.specs.Learnt.{AreFresh}
-use Rattle.gi_model.specs.Limits.{most_news}
+use Rattle.gi_model.specs.Luby.{IsLuby}
 use Rattle.gi_model.specs.State.{State, Run}
-use Rattle.gi_model.specs.Work.{EndsNonempty, IsSpent, IsModel, IsFailing, EndsWork, Works}
+use Rattle.gi_lit.specs.Ends.{EndsNonempty, IsModel, IsFailing}
+use Rattle.gi_model.specs.Work.{IsPaced, IsSpent, EndsWork}
 use Rattle.gi_model.specs.declared.replies.Now.{Now}
 use Rattle.gi_model.specs.declared.replies.Now.TheVariants.{Live, Ended}
 use Rattle.gi_model.specs.declared.replies.Verdict.{Verdict}
 use Rattle.gi_model.specs.declared.replies.Verdict.TheVariants.{Sat, Unsat, Unknown}
 use Rattle.gi_model.specs.declared.replies.Cause.TheVariants.{Stopped, Budget}
+use Rattle.gi_model.proofs.Folding.{luby_same}
 use Rattle.gi_plain.specs.Ends.{EndsWith}
 use Rattle.gi_plain.proofs.Deciding.{like, ok_like}
 use Rattle.gi_plain.proofs.Trying.{models_decide}
 
 -- a model, by its count and its truth
-pub model_decides : (s : State) (assumed : List ℕ) (values : List Bool) (clauses : List (List ℕ)) (r : Bool) → length values ≡ s.problem.vars → clauses ≡ force s.problem assumed → r ≡ (list_all (clause_true values) clauses && list_all (true_in values) assumed) → IsTrue r ↔ IsModel s assumed values
+pub model_decides : (s : State) (assumed : List ℕ) (values : List Bool) (clauses : List (List ℕ)) (r : Bool) → length values ≡ s.problem.vars → clauses ≡ force s.problem assumed → r ≡ (list_all (clause_true values) clauses && list_all (true_in values) assumed) → IsTrue r ↔ IsModel s.problem assumed values
 model_decides s assumed values clauses r n e d =
     let m = models_decide clauses assumed values r d in
     like r m (λ h. record { count = n; clauses = subst (Satisfies values) e h.0; lits = h.1 }) (λ h. (subst (Satisfies values) (sym e) h.clauses, h.lits))
 
 -- a failing set
 module _ (s : State) (assumed : List ℕ) (known : List (List ℕ)) (w : List ℕ) where
-  pub failing_like : {E : Type 0} (r : Result Bool E) (clauses all : List (List ℕ)) → clauses ≡ force s.problem w → all ≡ full s.problem ++ known → IsSublist w assumed → Fail clauses w → IfOk r (λ b. IsTrue b ↔ Conflicts all w) → IfOk r (λ b. IsTrue b ↔ IsFailing s assumed known w)
+  pub failing_like : {E : Type 0} (r : Result Bool E) (clauses all : List (List ℕ)) → clauses ≡ force s.problem w → all ≡ full s.problem ++ known → IsSublist w assumed → Fail clauses w → IfOk r (λ b. IsTrue b ↔ Conflicts all w) → IfOk r (λ b. IsTrue b ↔ IsFailing s.problem assumed known w)
   failing_like r clauses all ec ea sub f d = ok_like r (λ c. record { some = sub; fails = subst (λ cs. Fail cs w) ec f; derived = subst (λ cs. Conflicts cs w) ea c }) (λ h. subst (λ cs. Conflicts cs w) (sym ea) h.derived) d
 
-  pub not_some : ¬ IsSublist w assumed → ¬ IsFailing s assumed known w
+  pub not_some : ¬ IsSublist w assumed → ¬ IsFailing s.problem assumed known w
   not_some n h = n h.some
 
-  pub not_failing : (clauses : List (List ℕ)) → clauses ≡ force s.problem w → ¬ Fail clauses w → ¬ IsFailing s assumed known w
+  pub not_failing : (clauses : List (List ℕ)) → clauses ≡ force s.problem w → ¬ Fail clauses w → ¬ IsFailing s.problem assumed known w
   not_failing clauses e n h = n (subst (λ cs. Fail cs w) (sym e) h.fails)
 
 module _ (s : State) (r : Run) (mark : ℕ) (news : List (List ℕ)) where
@@ -74,5 +75,6 @@ module _ (s : State) (r : Run) (mark : ℕ) (news : List (List ℕ)) where
   ended_like o (Unknown (Stopped k)) lt n d = ok_like o (λ m. absurd m) (λ h. let le = h.0 in absurd (omega arith)) d
   ended_like o (Unknown (Budget k)) lt n d = ok_like o (λ m. absurd m) (λ h. absurd (n h.1)) d
 
-  pub works_like : {E : Type 0} (o : Result Bool E) (now : Now) → length news ≤ most_news → r.spent + length news ≤ r.budget → AreFresh s.problem s.known news → IfOk o (λ b. IsTrue b ↔ EndsWork s r mark news now) → IfOk o (λ b. IsTrue b ↔ Works s r mark news now)
-  works_like o now few within fresh d = ok_like o (λ e. record { few = few; within = within; fresh = fresh; ends = e }) (λ h. h.ends) d
+-- no more than the Luby number at the place allows
+pub paced_decides : (place n : ℕ) (news : List (List ℕ)) (b : Bool) → IsLuby place n → IsTrue b ↔ (length news ≤ 32 * n) → IsTrue b ↔ IsPaced place news
+paced_decides place n news b l d = like b d (λ h. (n, l, h)) (λ h. subst (λ (x : ℕ). length news ≤ 32 * x) (luby_same place h.0 n h.1 l) h.2)

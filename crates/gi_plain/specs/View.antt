@@ -2,14 +2,14 @@
 use Rattle.std.specs.Prelude.{ℕ, List}
 use Rattle.gi_lit.specs.Problem.{Problem}
 use Rattle.gi_model.specs.State.{State, Scope, Run, Solve, no_solve, running, paused, ended, Life, alive, shut, dead}
-use Rattle.gi_plain.specs.declared.solves.Job.{Job}
+use Rattle.gi_plain.specs.declared.job.Job.{Job}
 use Rattle.gi_plain.specs.declared.solves.Task.{Task}
 use Rattle.gi_plain.specs.declared.solves.Task.TheVariants.{Idle, Running, Paused, Ended}
 use Rattle.gi_plain.specs.declared.solves.Flag.{Flag}
 use Rattle.gi_plain.specs.declared.solves.Flag.TheVariants as flag
 
 abbrev pub run_of : Job → Run
-run_of j = record { serial = j.serial; assumed = j.assumed; budget = j.budget; spent = j.spent }
+run_of j = record { serial = j.serial; assumed = j.assumed; budget = j.budget; spent = j.spent; slices = j.slices }
 
 abbrev pub solve_of : Task → Solve
 solve_of Idle = no_solve

@@ -2,12 +2,11 @@ ghost use Rattle.std.specs.Prelude.{◌≡◌, ◌+◌, ◌-◌, ◌↔◌, IsTr
 ghost use Rattle.gi_model.specs.State.{live_run};
 ghost use Rattle.gi_model.specs.Replies.{status_of, waited};
 ghost use Rattle.gi_model.specs.Effects.{pausing, resuming, stopping};
-ghost use Rattle.gi_model.specs.History.{MayCome, AnswersModel, Answers, IsRefused, is_load, is_of_payload, wait_takes_memory, takes_memory, Allows};
+ghost use Rattle.gi_model.specs.History.{MayCome, AnswersModel, Answers, IsRefused, wait_takes_memory, takes_memory, Allows};
 ghost use Rattle.gi_plain.specs.View.{solve_of};
 ghost use Rattle.gi_plain.specs.Waits.{is_wait};
 
 use crate::machine::Plain;
-use crate::refusals::is_work;
 use crate::replies::{
     is_bye, is_clause, is_done, is_guard, is_known, is_model, is_next_started, is_no_memory,
     is_refusal, is_status, is_unsat, is_vars,
@@ -22,28 +21,6 @@ fn is_wait(call: &Call) -> bool
 {
     match call {
         Call::Wait => true,
-        _ => false,
-    }
-}
-
-/// Whether the call has a payload.
-fn is_load(call: &Call) -> bool
-    ensures { result ≡ is_load call.now }
-{
-    match call {
-        Call::LoadCnf(_) => true,
-        _ => false,
-    }
-}
-
-/// Whether the refusal is told of a load only once its payload was read.
-fn is_of_payload(refusal: Refusal) -> bool
-    ensures { result ≡ is_of_payload refusal }
-{
-    match refusal {
-        Refusal::Lit => true,
-        Refusal::Limit => true,
-        Refusal::Payload { .. } => true,
         _ => false,
     }
 }
@@ -130,7 +107,7 @@ impl Plain {
     fn may_come(&self, call: &Call) -> bool
         ensures { IsTrue result ↔ MayCome self.now call.now }
     {
-        if is_work(call) {
+        if call.is_work() {
             return true;
         }
         if is_wait(call) {
@@ -219,7 +196,8 @@ impl Plain {
     fn is_refused(call: &Call, reply: &Reply, refusal: Refusal) -> bool
         ensures { IsTrue result ↔ IsRefused call.now reply.now refusal }
     {
-        is_refusal(reply, refusal) || is_no_memory(reply) && is_load(call) && is_of_payload(refusal)
+        is_refusal(reply, refusal)
+            || is_no_memory(reply) && call.is_load() && refusal.is_of_payload()
     }
 
     /// Whether a call that isn't refused may be answered so, want of memory left out.

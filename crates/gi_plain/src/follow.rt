@@ -47,7 +47,8 @@ impl Plain {
 
     /// Learns the news, and leaves the solve so, if it runs.
     fn learn(&mut self, news: &Clauses, now: &Now) -> Result<(), AllocError>
-        requires { (r : Run) → live_run self.old ≡ Some r → r.spent + length news.now ≤ r.budget }
+        requires within { (r : Run) → live_run self.old ≡ Some r → r.spent + length news.now ≤ r.budget }
+        requires learns { (r : Run) → live_run self.old ≡ Some r → now.now ≡ Now.Live → 1 ≤ length news.now }
         ensures { OnOk result (self.new ≡ worked (live_run self.old) (Reply.Worked news.now now.now) self.old) }
     {
         if !self.is_alive() {
@@ -99,7 +100,7 @@ impl Plain {
                 self.make_guard()?;
                 Ok(())
             }
-            Call::Under(g, c) => self.put_pair(*g, c),
+            Call::Under(guards, c) => self.put_group(guards, c),
             Call::DropGuard(g) => self.free(*g),
             Call::Assume(lits) => self.take_on(lits),
             Call::Test => self.follow_test(reply),

@@ -4,6 +4,7 @@
 mod answers;
 mod closure;
 mod follow;
+mod job;
 mod learning;
 mod listing;
 mod lists;
@@ -18,6 +19,8 @@ mod solves;
 mod store;
 #[cfg(test)]
 mod tests;
+#[cfg(test)]
+mod transcript;
 mod truth;
 mod work;
 

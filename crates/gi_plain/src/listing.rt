@@ -147,7 +147,7 @@ impl Store {
 
 impl Plain {
     /// The assumptions of all open scopes, then the pending ones.
-    pub fn all_assumed(&self) -> Result<Lits, AllocError>
+    pub(crate) fn all_assumed(&self) -> Result<Lits, AllocError>
         ensures { IfOk result (λ ls. ls ≡ all_assumed self.now) }
     {
         let mut all = assumptions(self.alloc, self.scopes.as_slice())?;
@@ -199,7 +199,7 @@ impl Plain {
     }
 
     /// Whether a test may be answered so.
-    pub fn answers_test(&self, reply: &Reply) -> Result<bool, AllocError>
+    pub(crate) fn answers_test(&self, reply: &Reply) -> Result<bool, AllocError>
         ensures { IfOk result (λ b. IsTrue b ↔ AnswersTest self.now reply.now) }
     {
         match reply {

@@ -1,4 +1,4 @@
-ghost use Rattle.std.specs.Prelude.{◌≡◌, ◌<◌, ◌≤◌, ◌++◌, ◌∷◌, [], ◌↔◌, IsTrue, drop, take, map, length, slice_index, vec_len, IfOk, OnOk};
+ghost use Rattle.std.specs.Prelude.{◌≡◌, ◌<◌, ◌≤◌, ◌++◌, ◌∷◌, [], ◌↔◌, IsTrue, take, map, length, slice_index, IfOk, OnOk};
 ghost use Rattle.std.specs.List.{list_any, list_all};
 ghost use Rattle.gi_lit.specs.Problem.{has, names, without_var, without};
 ghost use Rattle.gi_lit.specs.Lists.{IsDistinct, IsSublist};
@@ -172,14 +172,4 @@ pub fn without(alloc: Global, vars: Vec<Var>, v: Var) -> Result<Vec<Var>, AllocE
     vars.into_iter()
         .filter(|w| w.index() != unwanted)
         .collect(alloc)
-}
-
-/// Takes so many clauses away at the front.
-pub fn drop_front(clauses: &mut Vec<Clause>, count: usize)
-    requires { count ≤ vec_len clauses.old }
-    ensures { clauses.new.items ≡ drop count clauses.old.items }
-{
-    for _i in 0..count {
-        let _ = clauses.remove(0);
-    }
 }

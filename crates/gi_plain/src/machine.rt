@@ -1,16 +1,17 @@
 ghost use Rattle.std.specs.Prelude.{◌≡◌, ◌+◌, ◌<◌, ◌≤◌, ◌==◌, ◌&&◌, nat_le, false, length, IfOk, OnOk};
-ghost use Rattle.gi_lit.specs.Problem.{grown, with_clause, with_pair, with_guard, next_guard};
-ghost use Rattle.gi_model.specs.Limits.{most_vars, most_solves};
+ghost use Rattle.gi_lit.specs.Problem.{grown, with_clause, with_group, with_guard, next_guard};
+ghost use Rattle.gi_model.specs.Limits.{most_solves};
+ghost use Rattle.gi_lit.specs.Literals.{max_var};
 ghost use Rattle.gi_model.specs.State.{opening, shut};
 ghost use Rattle.gi_model.specs.Effects.{edited, with_problem, assuming, untested, started, dropped, trimmed, pausing, resuming, stopping};
-ghost use Rattle.gi_model.specs.Replies.{status_of, waited};
 
-use crate::lists::{append, drop_front, without_var};
+use crate::job::Job;
+use crate::lists::{append, without_var};
 use crate::scopes::{Level, assumptions};
-use crate::solves::{Flag, Job, Task, pause, resume, status, stop, wait};
+use crate::solves::{Flag, Task, pause, resume, stop};
 use crate::store::Store;
-use gi_lit::{Clause, Lits, Var, top_variable};
-use gi_model::Reply;
+use gi_lit::{Clause, Guards, Lits, Var, top_variable};
+use gi_model::MAX_UNTRIMMED;
 use std::alloc::{AllocError, Global};
 use std::marker::Model;
 use std::mem;
@@ -64,8 +65,8 @@ impl Plain {
     }
 
     /// At least so many variables.
-    pub fn grow(&mut self, n: u32)
-        requires { n ≤ most_vars }
+    pub(crate) fn grow(&mut self, n: u32)
+        requires { n ≤ max_var }
         ensures { self.new ≡ with_problem (grown n self.old.problem) self.old }
     {
         self.store.grow(n);
@@ -73,7 +74,7 @@ impl Plain {
     }
 
     /// A plain clause more.
-    pub fn put_clause(&mut self, c: &Clause) -> Result<(), AllocError>
+    pub(crate) fn put_clause(&mut self, c: &Clause) -> Result<(), AllocError>
         ensures { OnOk result (self.new ≡ with_problem (with_clause c.now self.old.problem) self.old) }
     {
         self.store.add(c)?;
@@ -81,17 +82,17 @@ impl Plain {
         Ok(())
     }
 
-    /// A clause more under a guard.
-    pub fn put_pair(&mut self, g: Var, c: &Clause) -> Result<(), AllocError>
-        ensures { OnOk result (self.new ≡ with_problem (with_pair g c.now self.old.problem) self.old) }
+    /// A clause more under guards.
+    pub(crate) fn put_group(&mut self, guards: &Guards, c: &Clause) -> Result<(), AllocError>
+        ensures { OnOk result (self.new ≡ with_problem (with_group guards.now c.now self.old.problem) self.old) }
     {
-        self.store.under(g, c)?;
+        self.store.under(guards, c)?;
         self.forget();
         Ok(())
     }
 
-    /// Drops a guard, with its clauses and what was learnt about it.
-    pub fn free(&mut self, g: Var) -> Result<(), AllocError>
+    /// Drops a guard, with the groups that name it and what was learnt about it.
+    pub(crate) fn free(&mut self, g: Var) -> Result<(), AllocError>
         ensures { OnOk result (self.new ≡ dropped g self.old) }
     {
         self.store.drop_guard(g)?;
@@ -102,7 +103,7 @@ impl Plain {
     }
 
     /// Assumptions more.
-    pub fn take_on(&mut self, lits: &Lits) -> Result<(), AllocError>
+    pub(crate) fn take_on(&mut self, lits: &Lits) -> Result<(), AllocError>
         ensures { OnOk result (self.new ≡ assuming lits.now self.old) }
     {
         append(&mut self.pending, lits.as_slice())?;
@@ -112,7 +113,7 @@ impl Plain {
     }
 
     /// Closes the scope that was opened last.
-    pub fn close(&mut self)
+    pub(crate) fn close(&mut self)
         ensures { self.new ≡ untested self.old }
     {
         let _ = self.scopes.pop();
@@ -120,24 +121,25 @@ impl Plain {
     }
 
     /// With more than 20,000 learnt clauses the oldest half goes.
-    fn trim(&mut self)
-        ensures { self.new ≡ record self.old { known = trimmed self.old.known } }
+    fn trim(&mut self) -> Result<(), AllocError>
+        ensures { OnOk result (self.new ≡ record self.old { known = trimmed self.old.known }) }
     {
-        if self.known.len() > 20_000 {
+        if self.known.len() as u64 > MAX_UNTRIMMED {
             let half = self.known.len() / 2;
-            drop_front(&mut self.known, half);
+            self.known = self.known.split_off(half)?;
         }
+        Ok(())
     }
 
     /// Starts a solve, and tells its serial.
-    pub fn start(&mut self, budget: u32) -> Result<u64, AllocError>
+    pub(crate) fn start(&mut self, budget: u32) -> Result<u64, AllocError>
         requires { self.old.serial < most_solves }
         ensures serial { IfOk result (λ s. s ≡ self.old.serial + 1) }
         ensures state { OnOk result (self.new ≡ started budget self.old) }
     {
         let mut assumed = assumptions(self.alloc, self.scopes.as_slice())?;
         append(&mut assumed, self.pending.as_slice())?;
-        self.trim();
+        self.trim()?;
         self.pending = Lits::new(self.alloc);
         self.serial += 1;
         self.task = Task::Running(Job {
@@ -145,13 +147,14 @@ impl Plain {
             assumed,
             budget,
             spent: 0,
+            slices: 0,
         });
         Ok(self.serial)
     }
 
     /// Hands out a guard.
-    pub fn make_guard(&mut self) -> Result<Var, AllocError>
-        requires { ((length self.old.problem.freed == 0) && nat_le most_vars self.old.problem.vars) ≡ false }
+    pub(crate) fn make_guard(&mut self) -> Result<Var, AllocError>
+        requires { ((length self.old.problem.freed == 0) && nat_le max_var self.old.problem.vars) ≡ false }
         ensures guard { IfOk result (λ g. g ≡ next_guard self.old.problem) }
         ensures state { OnOk result (self.new ≡ with_problem (with_guard self.old.problem) self.old) }
     {
@@ -161,44 +164,30 @@ impl Plain {
     }
 
     /// Lets a running solve rest.
-    pub fn rest(&mut self)
+    pub(crate) fn rest(&mut self)
         ensures { self.new ≡ record self.old { solve = pausing self.old.solve } }
     {
         self.task = pause(mem::replace(&mut self.task, Task::Idle));
     }
 
     /// Lets a paused solve go on.
-    pub fn go_on(&mut self)
+    pub(crate) fn go_on(&mut self)
         ensures { self.new ≡ record self.old { solve = resuming self.old.solve } }
     {
         self.task = resume(mem::replace(&mut self.task, Task::Idle));
     }
 
     /// Ends a running or paused solve.
-    pub fn end(&mut self)
+    pub(crate) fn end(&mut self)
         ensures { self.new ≡ record self.old { solve = stopping self.old.solve } }
     {
         self.task = stop(mem::replace(&mut self.task, Task::Idle));
     }
 
     /// Shuts the machine.
-    pub fn lock(&mut self)
+    pub(crate) fn lock(&mut self)
         ensures { self.new ≡ record self.old { life = shut } }
     {
         self.flag = Flag::Shut;
-    }
-
-    /// How the solve stands.
-    pub fn standing(&self) -> Reply
-        ensures { result ≡ status_of self.now.solve }
-    {
-        status(&self.task)
-    }
-
-    /// How the solve ended.
-    pub fn ending(&self) -> Result<Reply, AllocError>
-        ensures { IfOk result (λ r. r ≡ waited self.now.solve) }
-    {
-        wait(&self.task)
     }
 }

@@ -92,7 +92,7 @@ impl Plain {
     }
 
     /// Whether the question for the reasons for m may be answered so.
-    pub fn answers_reasons(&self, m: Lit, reply: &Reply) -> Result<bool, AllocError>
+    pub(crate) fn answers_reasons(&self, m: Lit, reply: &Reply) -> Result<bool, AllocError>
         ensures { IfOk result (λ b. IsTrue b ↔ AnswersReasons self.now m reply.now) }
     {
         match reply {

@@ -5,7 +5,7 @@ ghost use Rattle.std.specs.List.{list_any};
 ghost use Rattle.gi_lit.specs.Problem.{has};
 ghost use Rattle.gi_model.specs.Limits.{most_pending};
 ghost use Rattle.gi_model.specs.State.{listed_in, alive};
-ghost use Rattle.gi_model.specs.Refusals.{refuses, is_over, admits, while_running, while_paused, is_scoped, has_bad_lit, is_not_guard, is_held, is_beyond, lacks_scope, is_unlisted, needs_solve, is_none_yet, lacks_model, lacks_clause, is_work, has_model};
+ghost use Rattle.gi_model.specs.Refusals.{refuses, is_over, admits, is_scoped, has_bad_lit, is_not_guard, is_held, is_beyond, lacks_scope, is_unlisted, needs_solve, is_none_yet, lacks_model, lacks_clause, has_model};
 ghost use Rattle.gi_plain.specs.Lacking.{lacking};
 
 use crate::lists::has_lit;
@@ -13,65 +13,8 @@ use crate::machine::Plain;
 use crate::scopes::lists;
 use crate::solves::{Flag, Task};
 use gi_lit::{MAX_VAR, top_variable};
-use gi_model::{Call, Refusal, Verdict};
+use gi_model::{Call, MAX_PENDING, MAX_SCOPES, MAX_SOLVES, Refusal, Verdict};
 use std::alloc::AllocError;
-
-/// What a running solve admits.
-fn while_running(call: &Call) -> bool
-    ensures { result ≡ while_running call.now }
-{
-    match call {
-        Call::Pause => true,
-        Call::Resume => true,
-        Call::Stop => true,
-        Call::Poll => true,
-        Call::Wait => true,
-        Call::Model => true,
-        Call::Known => true,
-        Call::KnownClause(_) => true,
-        Call::Reasons(_) => true,
-        Call::Bye => true,
-        Call::Shut => true,
-        _ => false,
-    }
-}
-
-/// What a paused solve admits.
-fn while_paused(call: &Call) -> bool
-    ensures { result ≡ while_paused call.now }
-{
-    match call {
-        Call::Vars(_) => true,
-        Call::Add(_) => true,
-        Call::NewGuard => true,
-        Call::Under(_, _) => true,
-        Call::DropGuard(_) => true,
-        _ => while_running(call),
-    }
-}
-
-/// The calls that speak of a solve.
-fn needs_solve(call: &Call) -> bool
-    ensures { result ≡ needs_solve call.now }
-{
-    match call {
-        Call::Pause => true,
-        Call::Resume => true,
-        Call::Stop => true,
-        Call::Poll => true,
-        Call::Wait => true,
-        _ => false,
-    }
-}
-
-pub fn is_work(call: &Call) -> bool
-    ensures { result ≡ is_work call.now }
-{
-    match call {
-        Call::Work(_) => true,
-        _ => false,
-    }
-}
 
 /// Whether two counts together are too many pending assumptions.
 fn too_many(a: usize, b: usize) -> bool
@@ -79,7 +22,7 @@ fn too_many(a: usize, b: usize) -> bool
 {
     match a.checked_add(b) {
         None => true,
-        Some(n) => n > 1_048_576,
+        Some(n) => n > MAX_PENDING,
     }
 }
 
@@ -123,8 +66,8 @@ impl Plain {
         match &self.task {
             Task::Idle => true,
             Task::Ended(_, _) => true,
-            Task::Paused(_) => while_paused(call),
-            Task::Running(_) => while_running(call),
+            Task::Paused(_) => call.while_paused(),
+            Task::Running(_) => call.while_running(),
         }
     }
 
@@ -154,7 +97,7 @@ impl Plain {
         ensures { result ≡ is_not_guard self.now.problem call.now }
     {
         match call {
-            Call::Under(g, _) => !self.store.is_active(*g),
+            Call::Under(guards, _) => self.store.some_inactive(guards.as_slice()),
             Call::DropGuard(g) => !self.store.is_active(*g),
             _ => false,
         }
@@ -184,12 +127,12 @@ impl Plain {
             Call::Vars(n) => *n > MAX_VAR,
             Call::Add(c) => self.store.is_full(c.as_slice()),
             Call::NewGuard => self.store.lacks_guard(),
-            Call::Under(_, c) => self.store.is_full(c.as_slice()),
+            Call::Under(guards, c) => self.store.is_full_under(guards.as_slice(), c.as_slice()),
             Call::Assume(lits) => {
                 top_variable(lits.as_slice()) > MAX_VAR || too_many(self.pending.len(), lits.len())
             }
-            Call::Test => self.scopes.len() >= 65_536,
-            Call::Solve(_) => self.serial >= 72_057_594_037_927_936,
+            Call::Test => self.scopes.len() >= MAX_SCOPES,
+            Call::Solve(_) => self.serial >= MAX_SOLVES,
             _ => false,
         }
     }
@@ -215,7 +158,7 @@ impl Plain {
     fn lacks_solve(&self, call: &Call) -> bool
         ensures { result ≡ (needs_solve call.now && is_none_yet self.now.solve) }
     {
-        needs_solve(call)
+        call.needs_solve()
             && match &self.task {
                 Task::Idle => true,
                 Task::Running(_) => false,
@@ -253,7 +196,7 @@ impl Plain {
 
     /// The refusal that the table names: the first whose condition holds. A payload is read where a
     /// condition speaks of it.
-    pub fn refusal(&self, call: &Call) -> Result<Option<Refusal>, AllocError>
+    pub(crate) fn refusal(&self, call: &Call) -> Result<Option<Refusal>, AllocError>
         ensures { IfOk result (λ r. r ≡ refuses self.now call.now) }
     {
         match call {
@@ -267,7 +210,7 @@ impl Plain {
         requires { is_load call.now ≡ false }
         ensures { result ≡ refuses self.now call.now }
     {
-        if is_work(call) {
+        if call.is_work() {
             return None;
         }
         if self.is_over() {

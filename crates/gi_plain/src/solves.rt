@@ -1,20 +1,12 @@
 ghost use Rattle.std.specs.Prelude.{◌≡◌, ◌+◌, ◌≤◌, IfOk};
 ghost use Rattle.gi_model.specs.Effects.{pausing, resuming, stopping, sliced};
-ghost use Rattle.gi_model.specs.Replies.{status_of, verdict_status, waited};
+ghost use Rattle.gi_model.specs.Replies.{verdict_status};
 ghost use Rattle.gi_plain.specs.View.{run_of, solve_of};
 
-use gi_lit::{Assign, Lits};
-use gi_model::{Cause, Now, Refusal, Reply, Status, Verdict, Why};
+use crate::job::Job;
+use gi_lit::Assign;
+use gi_model::{Cause, Now, Status, Verdict, Why};
 use std::alloc::{AllocError, Global};
-
-/// A solve under way.
-#[derive(Drop)]
-pub struct Job {
-    pub serial: u64,
-    pub assumed: Lits,
-    pub budget: u32,
-    pub spent: u32,
-}
 
 /// The solve.
 #[derive(Drop)]
@@ -81,40 +73,6 @@ pub fn verdict_status(verdict: &Verdict) -> Status
     }
 }
 
-/// How the solve stands.
-pub fn status(task: &Task) -> Reply
-    ensures { result ≡ status_of (solve_of task.now) }
-{
-    match task {
-        Task::Idle => Reply::Refused(Refusal::NoSolve),
-        Task::Running(job) => Reply::Status {
-            serial: job.serial,
-            status: Status::Running(job.spent),
-        },
-        Task::Paused(job) => Reply::Status {
-            serial: job.serial,
-            status: Status::Paused(job.spent),
-        },
-        Task::Ended(serial, verdict) => Reply::Status {
-            serial: *serial,
-            status: verdict_status(verdict),
-        },
-    }
-}
-
-/// The answer of a wait.
-pub fn wait(task: &Task) -> Result<Reply, AllocError>
-    ensures { IfOk result (λ r. r ≡ waited (solve_of task.now)) }
-{
-    match task {
-        Task::Ended(serial, Verdict::Unsat(failed)) => Ok(Reply::Unsat {
-            serial: *serial,
-            failed: failed.copy()?,
-        }),
-        _ => Ok(status(task)),
-    }
-}
-
 /// The same end again.
 fn copy_verdict(alloc: Global, verdict: &Verdict) -> Result<Verdict, AllocError>
     ensures { IfOk result (λ v. v ≡ verdict.now) }
@@ -132,7 +90,8 @@ fn copy_verdict(alloc: Global, verdict: &Verdict) -> Result<Verdict, AllocError>
 
 /// What a slice with so many news leaves of its solve.
 pub fn slice(alloc: Global, job: Job, count: usize, now: &Now) -> Result<Task, AllocError>
-    requires { job.spent + count ≤ job.budget }
+    requires within { job.spent + count ≤ job.budget }
+    requires learns { now.now ≡ Now.Live → 1 ≤ count }
     ensures { IfOk result (λ t. solve_of t ≡ sliced (run_of job) count now.now) }
 {
     match now {
@@ -143,6 +102,7 @@ pub fn slice(alloc: Global, job: Job, count: usize, now: &Now) -> Result<Task, A
                 assumed: job.assumed,
                 budget,
                 spent: job.spent + count as u32,
+                slices: job.slices + 1,
             }))
         }
         Now::Ended(verdict) => Ok(Task::Ended(job.serial, copy_verdict(alloc, verdict)?)),

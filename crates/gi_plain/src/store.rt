@@ -1,30 +1,32 @@
-ghost use Rattle.std.specs.Prelude.{◌≡◌, ◌+◌, ◌/◌, ◌<◌, ◌≤◌, ◌==◌, ◌&&◌, ◌||◌, not, max, nat_le, nat_lt, length, false, List, ℕ, IfOk, OnOk, IfSome, IfNone, sum_by, [], ◌∷◌, ◌++◌};
+ghost use Rattle.std.specs.Prelude.{◌≡◌, ◌+◌, ◌-◌, ◌/◌, ◌<◌, ◌≤◌, ◌==◌, ◌&&◌, ◌||◌, not, max, nat_le, nat_lt, length, false, List, ℕ, IfOk, OnOk, IfSome, IfNone, sum_by, [], ◌∷◌, ◌++◌};
 ghost use Rattle.std.specs.List.{list_any, list_all};
-ghost use Rattle.gi_lit.specs.Problem.{Pair, clause_count, lit_count, has, is_problem_var, is_usable, is_guard_lit, empty_problem, grown, with_clause, with_clauses, with_pair, with_guard, next_guard, without_guard, without_pairs, guarded, full, force, forced};
-ghost use Rattle.gi_model.specs.Limits.{most_vars, most_clauses, most_lits};
+ghost use Rattle.gi_lit.specs.Problem.{Group, as_given, clause_count, lit_count, has, is_problem_var, is_usable, is_guard_lit, empty_problem, grown, with_clause, with_clauses, with_group, with_guard, next_guard, without_guard, without_groups, are_given, negatives, guarded, full, force, forced};
+ghost use Rattle.gi_model.specs.Limits.{most_clauses, most_lits};
+ghost use Rattle.gi_lit.specs.Literals.{max_var};
 ghost use Rattle.gi_model.specs.Refusals.{some_unusable, is_full, is_past};
 ghost use Rattle.gi_plain.specs.Loading.{tops};
 ghost use Rattle.gi_model.specs.Replies.{model_from, model_of};
 
-use crate::lists::{append_copies, has_lit, has_var, without};
-use gi_lit::{Clause, Clauses, Lit, Lits, MAX_VAR, Var, top_variable};
+use crate::lists::{append, append_copies, has_lit, has_var, without};
+use gi_lit::{Clause, Clauses, Guards, Lit, Lits, MAX_VAR, Var, top_variable};
+use gi_model::{MAX_CLAUSES, MAX_LITS};
 use std::alloc::{AllocError, Global};
 use std::marker::Model;
 use std::mem;
 
-/// A clause that is in force under its guard.
+/// A clause that is in force under its guards.
 #[derive(Drop)]
 pub struct Guarded {
-    guard: Var,
+    guards: Guards,
     clause: Clause,
 }
 
 impl Model for Guarded {
-    ghost use Rattle.gi_lit.specs.Problem.{Pair};
+    ghost use Rattle.gi_lit.specs.Problem.{Group};
 
-    ghost Value = { Pair };
+    ghost Value = { Group };
 
-    ghost view = { λ q. record { guard = q.guard; clause = q.clause } };
+    ghost view = { λ q. record { guards = q.guards; clause = q.clause } };
 }
 
 /// The problem.
@@ -33,7 +35,7 @@ pub struct Store {
     alloc: Global,
     vars: u32,
     plain: Vec<Clause>,
-    pairs: Vec<Guarded>,
+    groups: Vec<Guarded>,
     active: Vec<Var>,
     freed: Vec<Var>,
 }
@@ -41,36 +43,58 @@ pub struct Store {
 impl Model for Store {
     ghost use Rattle.std.specs.Prelude.{◌≤◌};
     ghost use Rattle.gi_lit.specs.Problem.{Problem};
-    ghost use Rattle.gi_model.specs.Limits.{most_vars};
+    ghost use Rattle.gi_lit.specs.Literals.{max_var};
 
     ghost Value = { Problem };
 
-    ghost invariant = { λ s. s.vars ≤ most_vars };
+    ghost invariant = { λ s. s.vars ≤ max_var };
 
-    ghost view = { λ s. record { vars = s.vars; plain = s.plain.items; pairs = s.pairs.items; active = s.active.items; freed = s.freed.items } };
+    ghost view = { λ s. record { vars = s.vars; plain = s.plain.items; groups = s.groups.items; active = s.active.items; freed = s.freed.items } };
 }
 
 /// What is left of the room once the clauses are in; None where they don't fit.
-fn left_by_clauses(clauses: &[Clause], room: u64) -> Option<u64>
+fn left_by_clauses(clauses: &[Clause], room: u128) -> Option<u128>
     ensures some { IfSome result (λ left. left + sum_by length clauses.now ≡ room) }
     ensures none { IfNone result (room < sum_by length clauses.now) }
 {
     let mut left = room;
     for clause in clauses {
-        left = left.checked_sub(clause.len() as u64)?;
+        left = left.checked_sub(clause.len() as u128)?;
     }
     Some(left)
 }
 
-fn left_by_pairs(pairs: &[Guarded], room: u64) -> Option<u64>
-    ensures some { IfSome result (λ left. left + sum_by (λ (q : Pair). length q.clause) pairs.now ≡ room) }
-    ensures none { IfNone result (room < sum_by (λ (q : Pair). length q.clause) pairs.now) }
+fn left_by_groups(groups: &[Guarded], room: u128) -> Option<u128>
+    ensures some { IfSome result (λ left. left + sum_by as_given groups.now ≡ room) }
+    ensures none { IfNone result (room < sum_by as_given groups.now) }
 {
     let mut left = room;
-    for pair in pairs {
-        left = left.checked_sub(pair.clause.len() as u64)?;
+    for group in groups {
+        left = left.checked_sub(group.lits())?;
     }
     Some(left)
+}
+
+/// How many literals a clause under guards has as given: its own, and one for each guard after the first.
+fn count_given(guards: &[Var], clause: &[Lit]) -> u128
+    ensures { result ≡ length clause.now + (length guards.now - 1) }
+{
+    clause.len() as u128 + guards.len().saturating_sub(1) as u128
+}
+
+/// Whether each guard's positive literal is given.
+fn are_given(given: &[Lit], guards: &[Var]) -> bool
+    ensures { result ≡ are_given given.now guards.now }
+{
+    guards.iter().all(|g| has_lit(given, g.positive()))
+}
+
+/// The negative literals of guards, in order.
+fn negatives(alloc: Global, guards: &[Var]) -> Result<Lits, AllocError>
+    ensures { IfOk result (λ ls. ls ≡ negatives guards.now) }
+{
+    let lits = guards.iter().map(|g| g.negative()).collect(alloc)?;
+    Ok(Lits::from_vec(lits))
 }
 
 /// The greatest variable of clauses, 0 for none.
@@ -84,33 +108,40 @@ fn top_of_all(clauses: &[Clause]) -> u32
     top
 }
 
-/// The pairs of other guards, in order.
-#[tactic(auto, unfolding(gi_lit::specs::Problem::without_pairs))]
-fn without_pairs(alloc: Global, pairs: Vec<Guarded>, g: Var) -> Result<Vec<Guarded>, AllocError>
-    ensures { IfOk result (λ kept. kept.items ≡ without_pairs g pairs.items) }
+/// The groups that don't name the guard, in order.
+#[tactic(auto, unfolding(gi_lit::specs::Problem::without_groups))]
+fn without_groups(alloc: Global, groups: Vec<Guarded>, g: Var) -> Result<Vec<Guarded>, AllocError>
+    ensures { IfOk result (λ kept. kept.items ≡ without_groups g groups.items) }
 {
-    let unwanted = g.index();
-    pairs
+    groups
         .into_iter()
-        .filter(|q| q.guard.index() != unwanted)
+        .filter(|q| !has_var(q.guards.as_slice(), g))
         .collect(alloc)
 }
 
 impl Guarded {
-    /// The pair as one clause: its guard is false, or its clause holds.
-    fn whole(&self) -> Result<Clause, AllocError>
+    /// The group as one clause: a guard is false, or its clause holds.
+    fn whole(&self, alloc: Global) -> Result<Clause, AllocError>
         ensures { IfOk result (λ c. c ≡ guarded self.now) }
     {
         let mut clause = self.clause.copy()?;
-        clause.push(self.guard.negative())?;
+        let negatives = negatives(alloc, self.guards.as_slice())?;
+        append(&mut clause, negatives.as_slice())?;
         Ok(clause)
     }
 
-    /// Puts its clause behind those of the list where its guard is given.
+    /// How many literals it has as given.
+    fn lits(&self) -> u128
+        ensures { result ≡ as_given self.now }
+    {
+        count_given(self.guards.as_slice(), self.clause.as_slice())
+    }
+
+    /// Puts its clause behind those of the list where its guards are given.
     fn append_forced(&self, to: &mut Vec<Clause>, given: &[Lit]) -> Result<(), AllocError>
         ensures { OnOk result (to.new.items ≡ to.old.items ++ forced given.now (self.now ∷ [])) }
     {
-        if has_lit(given, self.guard.positive()) {
+        if are_given(given, self.guards.as_slice()) {
             to.push(self.clause.copy()?)?;
         }
         Ok(())
@@ -125,7 +156,7 @@ impl Store {
             alloc,
             vars: 0,
             plain: Vec::new(alloc),
-            pairs: Vec::new(alloc),
+            groups: Vec::new(alloc),
             active: Vec::new(alloc),
             freed: Vec::new(alloc),
         }
@@ -189,12 +220,32 @@ impl Store {
             .any(|l| !(self.is_usable(*l) || self.is_guard_lit(*l)))
     }
 
-    /// Whether one clause more, with these literals, would be too much.
-    pub fn is_full(&self, clause: &[Lit]) -> bool
-        ensures { result ≡ is_full self.now clause.now }
+    /// Whether one clause more, of these literals and with so many as given, would be too much.
+    fn is_full_with(&self, clause: &[Lit], lits: u128) -> bool
+        ensures { result ≡ is_full self.now clause.now lits }
     {
-        let clauses = self.plain.len() as u128 + self.pairs.len() as u128 + 1;
-        top_variable(clause) > MAX_VAR || clauses > 4_194_304 || self.lacks_lits(clause.len())
+        top_variable(clause) > MAX_VAR || self.has_too_many_clauses(1) || self.lacks_lits(lits)
+    }
+
+    /// Whether one plain clause more would be too much.
+    pub fn is_full(&self, clause: &[Lit]) -> bool
+        ensures { result ≡ is_full self.now clause.now (length clause.now) }
+    {
+        self.is_full_with(clause, clause.len() as u128)
+    }
+
+    /// Whether one clause more under these guards would be too much.
+    pub fn is_full_under(&self, guards: &[Var], clause: &[Lit]) -> bool
+        ensures { result ≡ is_full self.now clause.now (as_given (record { guards = guards.now; clause = clause.now })) }
+    {
+        self.is_full_with(clause, count_given(guards, clause))
+    }
+
+    /// Whether some guard isn't active.
+    pub fn some_inactive(&self, guards: &[Var]) -> bool
+        ensures { result ≡ list_any (λ g. not (has self.now.active g)) guards.now }
+    {
+        guards.iter().any(|g| !self.is_active(*g))
     }
 
     /// Whether some literal of the clauses is neither of a problem variable nor of one that isn't there yet.
@@ -222,7 +273,7 @@ impl Store {
 
     /// Whether there would be too many variables.
     fn has_too_many_vars(&self, vars: u32, clauses: &[Clause]) -> bool
-        ensures { result ≡ nat_lt most_vars (max (max self.now.vars vars) (tops clauses.now)) }
+        ensures { result ≡ nat_lt max_var (max (max self.now.vars vars) (tops clauses.now)) }
     {
         self.vars.max(vars).max(top_of_all(clauses)) > MAX_VAR
     }
@@ -231,19 +282,19 @@ impl Store {
     fn has_too_many_clauses(&self, count: usize) -> bool
         ensures { result ≡ nat_lt most_clauses (clause_count self.now + count) }
     {
-        self.plain.len() as u128 + self.pairs.len() as u128 + count as u128 > 4_194_304
+        self.plain.len() as u128 + self.groups.len() as u128 + count as u128 > MAX_CLAUSES as u128
     }
 
     /// Whether the literals of these clauses more would be too many.
     fn lacks_lits_of(&self, clauses: &[Clause]) -> bool
         ensures { result ≡ nat_lt most_lits (lit_count self.now + sum_by length clauses.now) }
     {
-        let room = match left_by_clauses(clauses, 67_108_864) {
+        let room = match left_by_clauses(clauses, MAX_LITS as u128) {
             Some(room) => room,
             None => return true,
         };
         match left_by_clauses(self.plain.as_slice(), room) {
-            Some(left) => left_by_pairs(self.pairs.as_slice(), left).is_none(),
+            Some(left) => left_by_groups(self.groups.as_slice(), left).is_none(),
             None => true,
         }
     }
@@ -259,22 +310,22 @@ impl Store {
     }
 
     /// Whether so many literals more would be too many.
-    fn lacks_lits(&self, count: usize) -> bool
+    fn lacks_lits(&self, count: u128) -> bool
         ensures { result ≡ nat_lt most_lits (lit_count self.now + count) }
     {
-        let room = match 67_108_864u64.checked_sub(count as u64) {
+        let room = match (MAX_LITS as u128).checked_sub(count) {
             Some(room) => room,
             None => return true,
         };
         match left_by_clauses(self.plain.as_slice(), room) {
-            Some(left) => left_by_pairs(self.pairs.as_slice(), left).is_none(),
+            Some(left) => left_by_groups(self.groups.as_slice(), left).is_none(),
             None => true,
         }
     }
 
     /// Whether no guard is left to hand out.
     pub fn lacks_guard(&self) -> bool
-        ensures { result ≡ ((length self.now.freed == 0) && nat_le most_vars self.now.vars) }
+        ensures { result ≡ ((length self.now.freed == 0) && nat_le max_var self.now.vars) }
     {
         self.freed.len() == 0 && self.vars >= MAX_VAR
     }
@@ -328,7 +379,7 @@ impl Store {
     }
 
     pub fn grow(&mut self, n: u32)
-        requires { n ≤ most_vars }
+        requires { n ≤ max_var }
         ensures { self.new ≡ grown n self.old }
     {
         if n > self.vars {
@@ -344,26 +395,26 @@ impl Store {
         Ok(())
     }
 
-    pub fn under(&mut self, guard: Var, clause: &Clause) -> Result<(), AllocError>
-        ensures { OnOk result (self.new ≡ with_pair guard clause.now self.old) }
+    pub fn under(&mut self, guards: &Guards, clause: &Clause) -> Result<(), AllocError>
+        ensures { OnOk result (self.new ≡ with_group guards.now clause.now self.old) }
     {
-        let pair = Guarded {
-            guard,
+        let group = Guarded {
+            guards: guards.copy()?,
             clause: clause.copy()?,
         };
-        self.pairs.push(pair)?;
+        self.groups.push(group)?;
         self.grow(top_variable(clause.as_slice()));
         Ok(())
     }
 
-    /// Its clauses, and each pair as one clause.
+    /// Its clauses, and each group as one clause.
     pub fn full(&self) -> Result<Vec<Clause>, AllocError>
         ensures { IfOk result (λ cs. cs.items ≡ full self.now) }
     {
         let mut all = Vec::new(self.alloc);
         append_copies(&mut all, self.plain.as_slice())?;
-        for pair in &self.pairs {
-            all.push(pair.whole()?)?;
+        for group in &self.groups {
+            all.push(group.whole(self.alloc)?)?;
         }
         Ok(all)
     }
@@ -374,8 +425,8 @@ impl Store {
     {
         let mut all = Vec::new(self.alloc);
         append_copies(&mut all, self.plain.as_slice())?;
-        for pair in &self.pairs {
-            pair.append_forced(&mut all, given)?;
+        for group in &self.groups {
+            group.append_forced(&mut all, given)?;
         }
         Ok(all)
     }
@@ -396,7 +447,7 @@ impl Store {
 
     /// Hands out the guard that was freed last, else a new variable.
     pub fn new_guard(&mut self) -> Result<Var, AllocError>
-        requires { ((length self.old.freed == 0) && nat_le most_vars self.old.vars) ≡ false }
+        requires { ((length self.old.freed == 0) && nat_le max_var self.old.vars) ≡ false }
         ensures guard { IfOk result (λ g. g ≡ next_guard self.old) }
         ensures active { OnOk result (self.new ≡ with_guard self.old) }
     {
@@ -415,12 +466,12 @@ impl Store {
         }
     }
 
-    /// Takes a guard away, and its pairs.
+    /// Takes a guard away, and the groups that name it.
     pub fn drop_guard(&mut self, g: Var) -> Result<(), AllocError>
         ensures { OnOk result (self.new ≡ without_guard g self.old) }
     {
-        let pairs = mem::replace(&mut self.pairs, Vec::new(self.alloc));
-        self.pairs = without_pairs(self.alloc, pairs, g)?;
+        let groups = mem::replace(&mut self.groups, Vec::new(self.alloc));
+        self.groups = without_groups(self.alloc, groups, g)?;
         let active = mem::replace(&mut self.active, Vec::new(self.alloc));
         self.active = without(self.alloc, active, g)?;
         self.freed.insert(0, g)?;

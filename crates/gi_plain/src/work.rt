@@ -1,17 +1,19 @@
-ghost use Rattle.std.specs.Prelude.{◌≡◌, ◌+◌, ◌++◌, ◌<◌, ◌↔◌, length, IsTrue, IfOk};
+ghost use Rattle.std.specs.Prelude.{◌≡◌, ◌+◌, ◌*◌, ◌++◌, ◌<◌, ◌≤◌, ◌↔◌, length, IsTrue, IfOk};
 ghost use Rattle.gi_model.specs.State.{live_run};
-ghost use Rattle.gi_model.specs.Work.{EndsNonempty, IsSpent, IsModel, IsFailing, EndsWork, Works, AnswersWork};
+ghost use Rattle.gi_model.specs.Work.{IsPaced, IsSpent, EndsWork, Works, AnswersWork};
+ghost use Rattle.gi_lit.specs.Ends.{EndsNonempty, IsModel, IsFailing};
 ghost use Rattle.gi_plain.specs.View.{run_of};
 ghost use Rattle.gi_plain.specs.Ends.{EndsWith};
 
 use crate::closure::conflicts;
+use crate::job::Job;
 use crate::lists::{is_sublist, joined};
 use crate::machine::Plain;
 use crate::replies::is_idle;
-use crate::solves::{Job, Task};
+use crate::solves::Task;
 use crate::truth::{fails, is_model};
 use gi_lit::{Assign, Clause, Lits};
-use gi_model::{Cause, Now, Reply, Verdict};
+use gi_model::{Cause, MAX_NEWS, Now, Reply, Verdict, luby};
 use std::alloc::AllocError;
 
 /// Whether there is a last clause, and it isn't empty.
@@ -29,6 +31,20 @@ fn spent_with(job: &Job, news: &[Clause]) -> u128
     ensures { result ≡ job.now.spent + length news.now }
 {
     job.spent as u128 + news.len() as u128
+}
+
+/// Whether the news are no more than the slice may learn that has this place among those of its solve, from 0.
+fn is_paced(place: u32, news: &[Clause]) -> bool
+    ensures { IsTrue result ↔ IsPaced (place + 1) news.now }
+{
+    is_at_most(news, luby(place))
+}
+
+/// Whether the news are at most 32 times so many.
+fn is_at_most(news: &[Clause], pace: u64) -> bool
+    ensures { IsTrue result ↔ (length news.now ≤ 32 * pace) }
+{
+    news.len() as u128 <= 32 * pace as u128
 }
 
 /// Whether the budget is spent, and the last clause isn't empty.
@@ -65,7 +81,7 @@ fn ends_unknown(now: &Now, cause: Cause) -> bool
 impl Plain {
     /// Whether the values satisfy the clauses in force and the assumptions.
     fn may_satisfy(&self, assumed: &Lits, values: &Assign) -> Result<bool, AllocError>
-        ensures { IfOk result (λ b. IsTrue b ↔ IsModel self.now assumed.now values.now) }
+        ensures { IfOk result (λ b. IsTrue b ↔ IsModel self.now.problem assumed.now values.now) }
     {
         if values.len() != self.store.vars() {
             return Ok(false);
@@ -76,7 +92,7 @@ impl Plain {
 
     /// Whether these are some of the assumptions, fail, and unit closure over all that is known finds it.
     fn may_fail(&self, assumed: &Lits, known: &[Clause], failed: &Lits) -> Result<bool, AllocError>
-        ensures { IfOk result (λ b. IsTrue b ↔ IsFailing self.now assumed.now known.now failed.now) }
+        ensures { IfOk result (λ b. IsTrue b ↔ IsFailing self.now.problem assumed.now known.now failed.now) }
     {
         let some = failed.as_slice();
         if !is_sublist(some, assumed.as_slice()) {
@@ -132,7 +148,10 @@ impl Plain {
     fn may_work(&self, job: &Job, mark: u64, news: &[Clause], now: &Now) -> Result<bool, AllocError>
         ensures { IfOk result (λ b. IsTrue b ↔ Works self.now (run_of job.now) mark news.now now.now) }
     {
-        if news.len() > 1024 {
+        if news.len() > MAX_NEWS as usize {
+            return Ok(false);
+        }
+        if !is_paced(job.slices, news) {
             return Ok(false);
         }
         if spent_with(job, news) > job.budget as u128 {
@@ -148,7 +167,7 @@ impl Plain {
     }
 
     /// Whether a slice of work may be answered so.
-    pub fn answers_work(&self, mark: u64, reply: &Reply) -> Result<bool, AllocError>
+    pub(crate) fn answers_work(&self, mark: u64, reply: &Reply) -> Result<bool, AllocError>
         ensures { IfOk result (λ b. IsTrue b ↔ AnswersWork self.now (live_run self.now) mark reply.now) }
     {
         if !self.is_alive() {
