@@ -1,5 +1,7 @@
 pub mod Listing
+pub mod LastWord
+pub mod Plus
 pub mod Reading
 pub mod Sources
-pub mod Writing
 pub mod Staying
+pub mod Joining

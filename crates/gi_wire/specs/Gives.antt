@@ -1,6 +1,7 @@
 -- What a reader of items answers.
-use Rattle.std.specs.Prelude.{◌≡◌, ℕ, ◌<◌, ◌≤◌, Bool, true, false, List, [], ◌∷◌}
+use Rattle.std.specs.Prelude.{◌≡◌, ℕ, ◌<◌, ◌≤◌, Bool, true, false, List, [], ◌∷◌, length, None}
 use Rattle.gi_model.specs.Fits.{fits}
+use Rattle.gi_model.specs.declared.calls.Call.TheVariants as call
 use Rattle.gi_wire.specs.declared.reader.Asked.{Asked}
 use Rattle.gi_wire.specs.declared.reader.Asked.TheVariants as asked
 use Rattle.gi_wire.specs.declared.reader.Given.{Given}
@@ -17,6 +18,26 @@ abbrev pub MayBeAsked : Asked → Type 0
 MayBeAsked (asked.Call call) = fits call ≡ true
 MayBeAsked asked.Syntax = Unit {0}
 MayBeAsked asked.Long = Unit {0}
+
+-- reading such an item takes memory: a list of guards or literals, also one that is outside the grammar, the bytes of a
+-- load, or the text of lines that are joined, also of too many
+abbrev pub takes_memory : Asked → Bool
+takes_memory (asked.Call (call.Add clause)) = true
+takes_memory (asked.Call (call.Under guards clause)) = true
+takes_memory (asked.Call (call.Assume literals)) = true
+takes_memory (asked.Call (call.LoadCnf bytes)) = true
+takes_memory (asked.Call other) = false
+takes_memory asked.Syntax = true
+takes_memory asked.Long = true
+
+-- reading the first of the items, if there are any, takes memory
+abbrev pub TakesMemory : List Item → Type 0
+TakesMemory [] = Unit {0}
+TakesMemory (i ∷ is) = takes_memory i.asked ≡ true
+
+-- whatever comes, reading the next item takes memory
+pub record AsksMemory (s : Source) : Type 0 where
+  pub each : (ended : Bool) (more : List ℕ) → Comes s ended more → TakesMemory (ahead s ended more)
 
 -- the first item is given
 pub record GivesItem (item : Item) (old new : Source) : Type 0 where
@@ -37,10 +58,19 @@ pub record Waits (old new : Source) : Type 0 where
 abbrev pub GivesNext : Given → Source → Source → Type 0
 GivesNext (given.Item item) old new = GivesItem item old new
 GivesNext given.More old new = Waits old new
-GivesNext given.Done old new = (old.lines.ended ≡ true) × (ahead old true [] ≡ []) × (new ≡ old)
-GivesNext given.NoMemory old new = new.lines.ended ≡ old.lines.ended
+GivesNext given.Done old new = (old.lines.ended ≡ true) × (ahead old true [] ≡ []) × SameAhead old new
+GivesNext given.NoMemory old new = (new.lines.ended ≡ old.lines.ended) × AsksMemory old
 
 -- a load under way is an item that is still to be given
 abbrev pub GivesLoad : Given → Source → Source → Type 0
 GivesLoad given.Done old new = ⊥
 GivesLoad answer old new = GivesNext answer old new
+
+-- the first line was taken, and goes on
+pub record GoesOn (old new : Source) : Type 0 where
+  pub same : SameAhead old new
+  pub ended : new.lines.ended ≡ old.lines.ended
+  pub load : new.load ≡ None
+  pub fewer : most_items new ≤ most_items old
+  pub count : last_line new ≤ last_line old
+  pub less : length new.lines.left < length old.lines.left

@@ -1,5 +1,4 @@
-pub mod Sent
-pub mod Outbox
+pub mod Limits
 pub mod Literals
 pub mod Text
 pub mod Grammar
@@ -7,5 +6,6 @@ pub mod CallRead
 pub mod Items
 pub mod Source
 pub mod Gives
+pub mod Taken
 pub mod Holds
 pub mod Laws

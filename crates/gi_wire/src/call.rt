@@ -1,12 +1,13 @@
 // Calls, read from lines.
-ghost use Rattle.std.specs.Prelude.{◌≡◌, ◌≤◌, ◌∷◌, true, IfOk, IfSome};
+ghost use Rattle.std.specs.Prelude.{◌≡◌, ◌≤◌, ◌∷◌, [], true, IfOk, IfSome, OnErr, option_map};
 ghost use Rattle.gi_model.specs.Fits.{fits};
+ghost use Rattle.gi_model.specs.Limits.{most_payload};
 ghost use Rattle.gi_text.specs.Numbers.{number_of};
 ghost use Rattle.gi_text.specs.Words.{words_of};
 ghost use Rattle.gi_wire.specs.CallRead.{ReadsCall};
-ghost use Rattle.gi_wire.specs.Grammar.{ask_of, call_alone, call_of, call_with, count_at, guard_at, is_zero, list_at, literal_at, load_of, load_with, short_call, under_of};
+ghost use Rattle.gi_wire.specs.Grammar.{Loads, call_alone, call_of, call_with, count_at, guard_at, behind_name, guards_at, has_list, is_zero, list_at, literal_at, load_of, load_with, short_call, under_guards, under_of, under_one};
 
-use gi_lit::{Lit, Lits, MAX_VAR, Var};
+use gi_lit::{Guards, Lit, Lits, MAX_VAR, Var};
 use gi_model::{Call, MAX_PAYLOAD};
 use gi_text::{Number, Words, read_number};
 use std::alloc::{AllocError, Global};
@@ -32,34 +33,32 @@ pub struct Load {
 #[derive(Drop)]
 pub enum CallRead {
     Call(Call),
-    /// A call with the `len` bytes behind the line's LF, at most 16,777,216.
+    /// A call with the `len` bytes behind the line's LF, at most `MAX_PAYLOAD`.
     Load { kind: Kind, len: u32 },
     /// The line isn't in the grammar.
     Syntax,
-    /// There was no memory for the call's list of literals.
+    /// There was no memory for the call's lists of guards and literals.
     NoMemory,
 }
 
 /// The call or load that a line asks for, by its words: white bytes before, between and after them
-/// don't matter. `Syntax` comes exactly where the grammar doesn't have the line.
-pub fn read_call(alloc: Global, line: &[u8]) -> CallRead
-    ensures { ReadsCall result (ask_of (words_of line.now)) }
-{
-    read_words(alloc, Words::new(line))
-}
-
-// The call or load that these words ask for.
+/// don't matter. `Syntax` comes exactly where the grammar doesn't have the line, but for want of memory, which only a
+/// line takes whose first word is `add`, `assume` or `under`.
 #[tactic(auto, unfolding(crate::specs::Grammar::ask_of))]
-fn read_words(alloc: Global, mut words: Words) -> CallRead
-    ensures { ReadsCall result (ask_of words.entry) }
+pub fn read_call(alloc: Global, line: &[u8]) -> CallRead
+    ensures { ReadsCall result (words_of line.now) }
 {
+    let mut words = Words::new(line);
     match words.next() {
         None => CallRead::Syntax,
         Some(name) => {
             if name == b"load".as_slice() {
-                return read_load(words);
+                return match read_load(words) {
+                    Some(Load { kind, len }) => CallRead::Load { kind, len },
+                    None => CallRead::Syntax,
+                };
             }
-            match read_named(alloc, name, words) {
+            match read_named(alloc, name, words, line) {
                 Ok(Some(call)) => CallRead::Call(call),
                 Ok(None) => CallRead::Syntax,
                 Err(_) => CallRead::NoMemory,
@@ -69,16 +68,17 @@ fn read_words(alloc: Global, mut words: Words) -> CallRead
 }
 
 // A load, by the words behind its name.
-fn read_load(mut words: Words) -> CallRead
-    ensures { ReadsCall result (load_of words.entry) }
+fn read_load(mut words: Words) -> Option<Load>
+    ensures load { option_map (λ l. Loads l.kind l.len) result ≡ load_of words.entry }
+    ensures size { IfSome result (λ l. l.len ≤ most_payload) }
 {
     match words.next() {
-        None => CallRead::Syntax,
+        None => None,
         Some(kind) => match words.next() {
-            None => CallRead::Syntax,
+            None => None,
             Some(len) => match words.next() {
                 None => read_load_with(kind, len),
-                Some(_) => CallRead::Syntax,
+                Some(_) => None,
             },
         },
     }
@@ -86,26 +86,34 @@ fn read_load(mut words: Words) -> CallRead
 
 // A load, by its kind and its length.
 #[tactic(auto, unfolding(crate::specs::Grammar::load_with))]
-fn read_load_with(kind: &[u8], len: &[u8]) -> CallRead
-    ensures { ReadsCall result (load_with kind.now len.now) }
+fn read_load_with(kind: &[u8], len: &[u8]) -> Option<Load>
+    ensures load { option_map (λ l. Loads l.kind l.len) result ≡ load_with kind.now len.now }
+    ensures size { IfSome result (λ l. l.len ≤ most_payload) }
 {
     if kind != b"cnf".as_slice() {
-        return CallRead::Syntax;
+        return None;
     }
     match read_count(len, 0, MOST_LOADED) {
-        Some(len) => CallRead::Load {
+        Some(len) => Some(Load {
             kind: Kind::Cnf,
             len,
-        },
-        None => CallRead::Syntax,
+        }),
+        None => None,
     }
 }
 
-// The call of this name, with these words behind it.
-#[tactic(auto, unfolding(crate::specs::Grammar::call_of))]
-fn read_named(alloc: Global, name: &[u8], words: Words) -> Result<Option<Call>, AllocError>
+// The call of this name, with these words behind it in the line.
+#[tactic(auto, unfolding(crate::specs::Grammar::call_of, crate::specs::Grammar::has_list))]
+fn read_named(
+    alloc: Global,
+    name: &[u8],
+    words: Words,
+    line: &[u8],
+) -> Result<Option<Call>, AllocError>
+    requires { words_of line.now ≡ name.now ∷ words }
     ensures call { IfOk result (λ call. call ≡ call_of (name.now ∷ words.entry)) }
     ensures fits { IfOk result (λ call. IfSome call (λ c. fits c ≡ true)) }
+    ensures list { OnErr result (has_list (name.now ∷ words.entry) ≡ true) }
 {
     if name == b"add".as_slice() {
         return Ok(read_list(alloc, words)?.map(Call::Add));
@@ -114,14 +122,34 @@ fn read_named(alloc: Global, name: &[u8], words: Words) -> Result<Option<Call>, 
         return Ok(read_list(alloc, words)?.map(Call::Assume));
     }
     if name == b"under".as_slice() {
-        return read_under(alloc, words);
+        return read_under(alloc, line);
     }
     Ok(read_short(name, words))
 }
 
-// A guard, and a list of literals.
-fn read_under(alloc: Global, mut words: Words) -> Result<Option<Call>, AllocError>
-    ensures call { IfOk result (λ call. call ≡ under_of words.entry) }
+// A clause under guards, by the whole line: one guard and a list, or a list of guards and a list.
+fn read_under(alloc: Global, line: &[u8]) -> Result<Option<Call>, AllocError>
+    ensures call { IfOk result (λ call. call ≡ under_of (behind_name (words_of line.now))) }
+    ensures fits { IfOk result (λ call. IfSome call (λ c. fits c ≡ true)) }
+{
+    match read_under_one(alloc, skip_name(line))? {
+        Some(call) => Ok(Some(call)),
+        None => read_under_guards(alloc, skip_name(line)),
+    }
+}
+
+// The words of a line behind its first.
+fn skip_name(line: &[u8]) -> Words
+    ensures { result ≡ behind_name (words_of line.now) }
+{
+    let mut words = Words::new(line);
+    let _name = words.next();
+    words
+}
+
+// One guard, and a list of literals.
+fn read_under_one(alloc: Global, mut words: Words) -> Result<Option<Call>, AllocError>
+    ensures call { IfOk result (λ call. call ≡ under_one words.entry) }
     ensures fits { IfOk result (λ call. IfSome call (λ c. fits c ≡ true)) }
 {
     match words.next() {
@@ -130,10 +158,56 @@ fn read_under(alloc: Global, mut words: Words) -> Result<Option<Call>, AllocErro
             None => Ok(None),
             Some(guard) => match read_list(alloc, words)? {
                 None => Ok(None),
-                Some(clause) => Ok(Some(Call::Under(guard, clause))),
+                Some(clause) => Ok(Some(Call::Under(only(alloc, guard)?, clause))),
             },
         },
     }
+}
+
+// The list of one guard.
+fn only(alloc: Global, guard: Var) -> Result<Guards, AllocError>
+    ensures { IfOk result (λ gs. gs ≡ guard ∷ []) }
+{
+    let mut guards = Guards::new(alloc);
+    guards.push(guard)?;
+    Ok(guards)
+}
+
+// A list of guards, one at least, and a list of literals.
+fn read_under_guards(alloc: Global, mut words: Words) -> Result<Option<Call>, AllocError>
+    ensures call { IfOk result (λ call. call ≡ under_guards (guards_at words.entry)) }
+    ensures fits { IfOk result (λ call. IfSome call (λ c. fits c ≡ true)) }
+{
+    match read_guards(alloc, &mut words)? {
+        None => Ok(None),
+        Some(guards) => {
+            if guards.is_empty() {
+                return Ok(None);
+            }
+            match read_list(alloc, words)? {
+                None => Ok(None),
+                Some(clause) => Ok(Some(Call::Under(guards, clause))),
+            }
+        }
+    }
+}
+
+// Guards up to a word 0, which is taken too.
+#[tactic(auto, unfolding(crate::specs::Grammar::guards_at))]
+fn read_guards(alloc: Global, words: &mut Words) -> Result<Option<Guards>, AllocError>
+    ensures { IfOk result (λ read. option_map (λ gs. (gs, words.new)) read ≡ guards_at words.old) }
+{
+    let mut guards = Guards::new(alloc);
+    'words: while let Some(word) = words.next() {
+        if is_end(word) {
+            return Ok(Some(guards));
+        }
+        match read_guard(word) {
+            Some(guard) => guards.push(guard)?,
+            None => return Ok(None),
+        }
+    }
+    Ok(None)
 }
 
 // Literals, and then a 0 as the last word.

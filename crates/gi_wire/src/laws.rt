@@ -1,5 +1,5 @@
 // Laws of items.
-ghost use Rattle.gi_wire.specs.Laws.{CutLoadsAreRefused, ItemsStay, LoadsAreItems};
+ghost use Rattle.gi_wire.specs.Laws.{CutLinesAreRefused, CutLoadsAreRefused, ItemsStay, LinesAreJoined, LoadsAreItems};
 
 /// The items of the bytes so far are a front of the items of more bytes.
 pub fn items_stay()
@@ -11,4 +11,11 @@ pub fn items_stay()
 pub fn loads_are_items()
     ensures whole { LoadsAreItems }
     ensures cut { CutLoadsAreRefused }
+{}
+
+/// A line that goes on, and one behind it that doesn't, are one item under the first one's number. What
+/// goes on and has no line behind it is refused where the input ends.
+pub fn lines_are_joined()
+    ensures joined { LinesAreJoined }
+    ensures cut { CutLinesAreRefused }
 {}

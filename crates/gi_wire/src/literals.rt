@@ -1,12 +1,11 @@
 // Lists of literals as text.
 ghost use Rattle.std.specs.Prelude.{◌++◌, ℕ, List};
+ghost use Rattle.gi_outside.specs.Outbox.{Stands};
 ghost use Rattle.gi_outside.specs.World.{World};
 ghost use Rattle.gi_wire.specs.Literals.{list_text};
-ghost use Rattle.gi_wire.specs.Outbox.{Stands};
 
-use crate::outbox::Outbox;
 use gi_lit::Lit;
-use gi_outside::Link;
+use gi_outside::{Link, Outbox};
 use gi_text::Digits;
 
 /// Puts each literal with a space behind it, and then a 0.

@@ -1,12 +1,17 @@
 // A reader of items.
-ghost use Rattle.std.specs.Prelude.{◌≡◌, ◌++◌, ◌+◌, ◌^◌, ◌<◌, ◌≤◌, ℕ, List, Bool, length, [], true, false, Some, None, OnOk, OnErr};
-ghost use Rattle.gi_wire.specs.Gives.{GivesLoad, GivesNext};
-ghost use Rattle.gi_wire.specs.Items.{load_call};
+ghost use Rattle.std.specs.Prelude.{◌≡◌, ◌++◌, ◌+◌, ◌^◌, ◌<◌, ◌≤◌, ℕ, List, Bool, length, take, [], true, false, Some, None, MatchOption, OnOk, OnErr};
+ghost use Rattle.gi_text.specs.Given.{IsLine};
+ghost use Rattle.gi_text.specs.Lines.{GivesLine};
+ghost use Rattle.gi_wire.specs.Gives.{GivesLoad, GivesNext, GoesOn};
+ghost use Rattle.gi_wire.specs.Items.{alone, load_call};
+ghost use Rattle.gi_wire.specs.Limits.{most_line};
 ghost use Rattle.gi_wire.specs.Source.{ahead, last_line};
+ghost use Rattle.gi_wire.specs.Taken.{Takes};
 
-use crate::call::{CallRead, Kind, Load, read_call};
+use crate::begun::{Begun, Taken};
+use crate::call::{Kind, Load};
 use gi_model::Call;
-use gi_text::{Bytes, Lines, Next, Raw};
+use gi_text::{Bytes, Lines, Look, Raw};
 use std::alloc::{AllocError, Global};
 use std::marker::Model;
 
@@ -14,15 +19,17 @@ use std::marker::Model;
 #[derive(Drop)]
 pub enum Asked {
     Call(Call),
-    /// The line isn't in the grammar, or the input ends before the load's bytes are there.
+    /// The line isn't in the grammar, or the input ends before the load's bytes are there or behind a `+`.
     Syntax,
-    /// The line has more than 1,048,576 bytes.
+    /// A line has more than `MAX_LINE` bytes, or those that are joined have more than `MAX_JOINED` together.
     Long,
 }
 
-/// A line, by its number, counted from 1; a load with the bytes behind its line, which are no lines.
+/// A line, with all that are joined to it because each before goes on by a last word `+`; a load with the bytes behind its
+/// line, which are no lines.
 #[derive(Drop)]
 pub struct Item {
+    /// The number of its first line, from 1.
     pub line: u64,
     pub asked: Asked,
 }
@@ -35,17 +42,20 @@ pub enum Given {
     More,
     /// The input has ended, and every item was given.
     Done,
-    /// There was no memory. The reader isn't to be used again.
+    /// There was no memory for the lists or the bytes of the next item. The reader isn't to be used again.
     NoMemory,
 }
 
-/// The items of an input that comes in pieces. It hides numbers, loads under way, and how much is kept
-/// of lines that are too long.
+/// The items of an input that comes in pieces. It hides numbers, joined lines, loads under way, and how much is kept of
+/// lines that are too long.
 #[derive(Drop)]
 pub struct Reader {
     alloc: Global,
     lines: Lines,
+    // The number of the next line.
     line: u64,
+    // The lines that it is joined to.
+    begun: Begun,
     // Its line was taken, and its bytes were not.
     load: Option<Load>,
 }
@@ -56,7 +66,7 @@ impl Model for Reader {
 
     ghost Value = { Source };
 
-    ghost view = { λ r. record { lines = r.lines; line = r.line; load = r.load } };
+    ghost view = { λ r. record { lines = r.lines; line = r.line; joined = r.begun; load = r.load } };
 
     ghost invariant = { λ r. HoldsLong r.lines × HoldsLoad r.lines r.load };
 }
@@ -64,12 +74,13 @@ impl Model for Reader {
 impl Reader {
     /// Nothing was fed yet. Takes no memory.
     pub fn new(alloc: Global) -> Reader
-        ensures { result ≡ record { lines = record { left = []; ended = false; long = false; most = 1048576 }; line = 1; load = None } }
+        ensures { result ≡ record { lines = record { left = []; ended = false; long = false; most = most_line }; line = 1; joined = alone 1; load = None } }
     {
         Reader {
             alloc,
             lines: Lines::new(alloc),
             line: 1,
+            begun: Begun::new(alloc, 1),
             load: None,
         }
     }
@@ -96,36 +107,88 @@ impl Reader {
 
     /// The next item.
     pub fn next_item(&mut self) -> Given
-        requires { self.old.line < 2 ^ 63 }
+        requires { last_line self.old < 2 ^ 63 }
         ensures { GivesNext result self.old self.new }
     {
         match self.load {
             Some(load) => self.next_load(load),
-            None => self.next_line(),
+            None => self.next_lines(),
         }
     }
 
-    // The item that the next line is, or begins.
-    fn next_line(&mut self) -> Given
-        requires room { self.old.line < 2 ^ 63 }
+    // The item that the next lines are, or begin.
+    fn next_lines(&mut self) -> Given
+        requires room { last_line self.old < 2 ^ 63 }
         requires load { self.old.load ≡ None }
         ensures { GivesNext result self.old self.new }
     {
-        match self.lines.next_line() {
-            Next::Line(line) => match read_call(self.alloc, line.as_slice()) {
-                CallRead::Call(call) => Given::Item(self.number(Asked::Call(call))),
-                CallRead::Load { kind, len } => {
-                    self.load = Some(Load { kind, len });
-                    self.next_load(Load { kind, len })
-                }
-                CallRead::Syntax => Given::Item(self.number(Asked::Syntax)),
-                CallRead::NoMemory => Given::NoMemory,
-            },
-            Next::Long => Given::Item(self.number(Asked::Long)),
-            Next::More => Given::More,
-            Next::Done => Given::Done,
-            Next::NoMemory => Given::NoMemory,
+        'lines: loop {
+            match self.take_line() {
+                Some(given) => return given,
+                None => {}
+            }
         }
+    }
+
+    // Takes a line: what it gives, unless it goes on.
+    fn take_line(&mut self) -> Option<Given>
+        requires room { last_line self.old < 2 ^ 63 }
+        requires load { self.old.load ≡ None }
+        ensures { MatchOption result (GoesOn self.old self.new) (λ given. GivesNext given self.old self.new) }
+    {
+        match self.lines.look() {
+            Look::Line(n) => self.take_whole(n),
+            Look::Long => {
+                let first = self.begun.first();
+                Some(Given::Item(self.number(first, Asked::Long)))
+            }
+            Look::More => Some(Given::More),
+            Look::Done => Some(self.cut_lines()),
+        }
+    }
+
+    // Takes the line of `n` bytes in front.
+    fn take_whole(&mut self, n: u32) -> Option<Given>
+        requires room { last_line self.old < 2 ^ 63 }
+        requires load { self.old.load ≡ None }
+        requires line { IsLine n self.old.lines }
+        requires short { n ≤ most_line }
+        ensures { MatchOption result (GoesOn self.old self.new) (λ given. GivesNext given self.old self.new) }
+    {
+        let first = self.begun.first();
+        match take_front(self.alloc, &mut self.begun, &mut self.lines, n) {
+            Taken::GoesOn => {
+                self.line += 1;
+                None
+            }
+            Taken::Long => Some(Given::Item(self.number(first, Asked::Long))),
+            Taken::Call(call) => Some(Given::Item(self.number(first, Asked::Call(call)))),
+            Taken::Load(load) => {
+                self.begun = Begun::new(self.alloc, self.line);
+                self.load = Some(load);
+                Some(self.next_load(load))
+            }
+            Taken::Syntax => Some(Given::Item(self.number(first, Asked::Syntax))),
+            Taken::NoMemory => Some(Given::NoMemory),
+        }
+    }
+
+    // The input has ended: lines that go on are refused.
+    fn cut_lines(&mut self) -> Given
+        requires load { self.old.load ≡ None }
+        requires left { self.old.lines.left ≡ [] }
+        requires ended { self.old.lines.ended ≡ true }
+        ensures { GivesNext result self.old self.new }
+    {
+        if self.begun.is_empty() {
+            return Given::Done;
+        }
+        let line = self.begun.first();
+        self.begun = Begun::new(self.alloc, self.line);
+        Given::Item(Item {
+            line,
+            asked: Asked::Syntax,
+        })
     }
 
     // The item that the load under way makes.
@@ -134,27 +197,40 @@ impl Reader {
         requires load { self.old.load ≡ Some load }
         ensures { GivesLoad result self.old self.new }
     {
+        let line = self.line;
         match self.lines.take_raw(load.len) {
             Raw::Bytes(bytes) => {
-                Given::Item(self.number(Asked::Call(call_of_load(load.kind, bytes))))
+                Given::Item(self.number(line, Asked::Call(call_of_load(load.kind, bytes))))
             }
             Raw::More => Given::More,
-            Raw::Cut => Given::Item(self.number(Asked::Syntax)),
+            Raw::Cut => Given::Item(self.number(line, Asked::Syntax)),
             Raw::NoMemory => Given::NoMemory,
         }
     }
 
-    // Numbers what an item asks for. No load is under way behind it.
-    fn number(&mut self, asked: Asked) -> Item
+    // Numbers what an item asks for. The next line begins another.
+    fn number(&mut self, first: u64, asked: Asked) -> Item
         requires { self.old.line < 2 ^ 63 }
-        ensures item { result ≡ record { line = self.old.line; asked = asked } }
-        ensures next { self.new ≡ record self.old { line = self.old.line + 1; load = None } }
+        ensures item { result ≡ record { line = first; asked = asked } }
+        ensures next { self.new ≡ record self.old { line = self.old.line + 1; joined = alone (self.old.line + 1); load = None } }
     {
-        let line = self.line;
         self.line += 1;
+        self.begun = Begun::new(self.alloc, self.line);
         self.load = None;
-        Item { line, asked }
+        Item { line: first, asked }
     }
+}
+
+// Takes the whole line of `n` bytes that stands in front.
+fn take_front(alloc: Global, begun: &mut Begun, lines: &mut Lines, n: u32) -> Taken
+    requires line { IsLine n lines.old }
+    requires short { n ≤ most_line }
+    ensures takes { Takes result (take n lines.old.left) begun.old begun.new }
+    ensures line { GivesLine (take n lines.old.left) lines.old lines.new }
+{
+    let taken = begun.take(alloc, lines.front(n as usize));
+    lines.pass(n as usize);
+    taken
 }
 
 // The call of a load with these bytes.

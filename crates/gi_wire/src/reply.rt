@@ -1,27 +1,23 @@
 // The lines that answer.
 ghost use Rattle.std.specs.Prelude.{◌≡◌, ◌++◌, ℕ, List, [], true, decimal};
-ghost use Rattle.gi_outside.specs.World.{World, Wrote, WroteCut};
+ghost use Rattle.gi_outside.specs.Outbox.{Stands};
+ghost use Rattle.gi_outside.specs.Sent.{Sends};
+ghost use Rattle.gi_outside.specs.World.{World};
 ghost use Rattle.gi_wire.specs.Literals.{list_text};
-ghost use Rattle.gi_wire.specs.Outbox.{Stands};
-ghost use Rattle.gi_wire.specs.Sent.{MatchSent};
 ghost use Rattle.gi_wire.specs.Text.{code_text, details_text, gate_text, is_answer, status_text, text, words_text};
 
 use crate::literals::put_literals;
-use crate::outbox::Outbox;
-use crate::sent::Sent;
 use gi_dimacs::CnfCode;
 use gi_lit::Lits;
 use gi_model::{PayloadCode, Refusal, Reply, Status, Why};
-use gi_outside::Link;
-use gi_text::Digits;
+use gi_outside::{Link, Outbox, Sent};
 
 /// Writes the line that answers the line of this number. The text is gathered in a buffer of 4,096
 /// bytes, which is written when it is full and at the end; this takes no memory. After `Failed` a
 /// front of the text was written that lacks its last byte, and the link's count of failed writes rose.
 pub fn write_reply<L: Link>(line: u64, reply: &Reply, link: &mut L) -> Sent
     requires { is_answer reply.now ≡ true }
-    ensures { MatchSent result (Wrote (L.state link.old) (L.state link.new) (text line reply.now))
-        (WroteCut (L.state link.old) (L.state link.new) (text line reply.now)) }
+    ensures { Sends result (L.state link.old) (L.state link.new) (text line reply.now) }
 {
     let mut outbox = Outbox::new();
     put_answer(&mut outbox, line, reply, link);
@@ -145,7 +141,7 @@ fn put_numbered<L: Link>(outbox: &mut Outbox, word: &[u8], number: u64, link: &m
         → Stands start (L.state link.new) outbox.new (before ++ (word.now ++ decimal number)) }
 {
     outbox.put(word, link);
-    outbox.put(Digits::of(i128::from(number)).as_slice(), link);
+    outbox.put_number(number, link);
 }
 
 // Puts a word, and a list of literals.

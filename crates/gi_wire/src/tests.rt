@@ -1,234 +1,247 @@
-ghost use Rattle.std.specs.Prelude.{◌^◌, ◌<◌, ◌≤◌, IfOk};
+// Rows from outside, and each call once with ample memory.
+ghost use Rattle.std.specs.Prelude.{◌≡◌, ◌^◌, ◌<◌, ◌≤◌, IsTrue, true};
 ghost use Rattle.gi_wire.specs.Source.{last_line};
+ghost use Rattle.gi_wire.specs.Text.{is_answer};
 
 use super::*;
 use gi_dimacs::CnfCode;
 use gi_lit::{Lit, Lits};
 use gi_model::{Call, PayloadCode, Refusal, Reply, Status, Why};
-use gi_outside::MemoryLink;
+use gi_outside::{MemoryLink, Sent};
 use gi_text::Bytes;
 use std::alloc::Global;
-use std::test::Fail;
 
-fn empty_link(alloc: Global) -> MemoryLink {
-    MemoryLink::new(
+// Whether a reply is written as this text.
+fn is_told(alloc: Global, line: u64, reply: &Reply, text: &str) -> bool
+    requires { is_answer reply.now ≡ true }
+{
+    let none = Bytes::new(alloc);
+    let mut link = MemoryLink::new(
         alloc,
-        Bytes::new(alloc),
+        none,
         Vec::new(alloc),
         Vec::new(alloc),
         Vec::new(alloc),
-    )
+    );
+    match write_reply(line, reply, &mut link) {
+        Sent::Done => link.written() == text.as_bytes(),
+        Sent::Failed => false,
+    }
 }
 
 // The literals 1 and -2.
-fn one_and_not_two(alloc: Global) -> Result<Lits, Fail> {
+fn one_and_not_two(alloc: Global) -> Option<Lits> {
     let mut literals = Lits::new(alloc);
-    literals.push(Lit::from_dimacs(1).ok_or("a literal")?)?;
-    literals.push(Lit::from_dimacs(-2).ok_or("a literal")?)?;
-    Ok(literals)
+    match literals.push(Lit::from_dimacs(1)?) {
+        Ok(()) => {}
+        Err(_) => return None,
+    }
+    match literals.push(Lit::from_dimacs(-2)?) {
+        Ok(()) => Some(literals),
+        Err(_) => None,
+    }
 }
 
-#[test]
-fn answers_are_lines(rt: HostRuntime) -> Result<(), Fail> {
-    let mut link = empty_link(rt.alloc());
-    let failed = one_and_not_two(rt.alloc())?;
-    let stopped = Status::Unknown(Why::Stopped);
-    let unsat = write_reply(1, &Reply::Unsat { serial: 7, failed }, &mut link);
-    let unknown = write_reply(
+fn tells_a_list(alloc: Global) -> bool {
+    match one_and_not_two(alloc) {
+        Some(failed) => is_told(
+            alloc,
+            1,
+            &Reply::Unsat { serial: 7, failed },
+            "unsat 7 1 -2 0\n",
+        ),
+        None => false,
+    }
+}
+
+fn tells_a_status(alloc: Global) -> bool {
+    let status = Status::Unknown(Why::Stopped);
+    is_told(
+        alloc,
         2,
-        &Reply::Status {
-            serial: 7,
-            status: stopped,
-        },
-        &mut link,
-    );
-    let refused = write_reply(3, &Reply::Refused(Refusal::NoSolve), &mut link);
-    assert_eq!(rt;
-        (unsat, unknown, refused),
-        (Sent::Done, Sent::Done, Sent::Done)
-    );
-    assert_eq!(rt;
-        link.written(),
-        b"unsat 7 1 -2 0\nunknown 7 stopped\nrefused 3 12\n".as_slice()
-    );
-    Ok(())
+        &Reply::Status { serial: 7, status },
+        "unknown 7 stopped\n",
+    )
 }
 
-#[test]
-fn a_loaded_file_is_told(rt: HostRuntime) {
-    let mut link = empty_link(rt.alloc());
+fn tells_a_load(alloc: Global) -> bool {
     let loaded = Reply::LoadedCnf {
         vars: 2,
         clauses: 1,
     };
-    let sent = write_reply(1, &loaded, &mut link);
-    assert_eq!(rt; sent, Sent::Done);
-    assert_eq!(rt; link.written(), b"loaded cnf 2 1\n".as_slice());
+    is_told(alloc, 1, &loaded, "loaded cnf 2 1\n")
+}
+
+fn tells_a_refusal(alloc: Global, refusal: Refusal, text: &str) -> bool {
+    is_told(alloc, 3, &Reply::Refused(refusal), text)
+}
+
+#[test]
+fn answers_are_lines(rt: HostRuntime) {
+    let alloc = rt.alloc();
+    assert!(rt; tells_a_list(alloc));
+    assert!(rt; tells_a_status(alloc));
+    assert!(rt; tells_a_load(alloc));
+    assert!(rt; tells_a_refusal(alloc, Refusal::NoSolve, "refused 3 12\n"));
+}
+
+const PAYLOADS: [(CnfCode, u32, &str); 6] = [
+    (CnfCode::Header, 0, "refused 3 16 2 header\n"),
+    (CnfCode::Word, 0, "refused 3 16 2 word\n"),
+    (CnfCode::Number, 0, "refused 3 16 2 number\n"),
+    (CnfCode::Limit, 0, "refused 3 16 2 limit\n"),
+    (CnfCode::Unterminated, 0, "refused 3 16 2 unterminated\n"),
+    (CnfCode::Word, 7, "refused 3 16 2 word 7\n"),
+];
+
+fn tells_a_payload(alloc: Global, code: CnfCode, gate: u32, text: &str) -> bool {
+    let code = PayloadCode::Cnf(code);
+    let refusal = Refusal::Payload {
+        line: 2,
+        gate,
+        code,
+    };
+    tells_a_refusal(alloc, refusal, text)
 }
 
 #[test]
 fn a_payload_is_refused_with_its_line(rt: HostRuntime) {
-    let rows = [
-        (CnfCode::Header, 0, "refused 1 16 2 header\n"),
-        (CnfCode::Word, 0, "refused 1 16 2 word\n"),
-        (CnfCode::Number, 0, "refused 1 16 2 number\n"),
-        (CnfCode::Limit, 0, "refused 1 16 2 limit\n"),
-        (CnfCode::Unterminated, 0, "refused 1 16 2 unterminated\n"),
-        (CnfCode::Word, 7, "refused 1 16 2 word 7\n"),
-    ];
-    for (code, gate, text) in rows {
-        let mut link = empty_link(rt.alloc());
-        let refusal = Refusal::Payload {
-            line: 2,
-            gate,
-            code: PayloadCode::Cnf(code),
-        };
-        let sent = write_reply(1, &Reply::Refused(refusal), &mut link);
-        assert_eq!(rt; sent, Sent::Done);
-        assert_eq!(rt; link.written(), text.as_bytes());
+    for (code, gate, text) in PAYLOADS {
+        assert!(rt; tells_a_payload(rt.alloc(), code, gate, text), "{text}");
+    }
+}
+
+fn reads_one_and_not_two(alloc: Global, line: &str) -> bool {
+    match (read_call(alloc, line.as_bytes()), one_and_not_two(alloc)) {
+        (CallRead::Call(Call::Add(clause)), Some(want)) => clause.as_slice() == want.as_slice(),
+        _ => false,
     }
 }
 
 #[test]
-fn a_clause_is_read_by_its_words(rt: HostRuntime) -> Result<(), Fail> {
-    let CallRead::Call(Call::Add(clause)) = read_call(rt.alloc(), b" add\t1 -2 00\r") else {
-        return Err(Fail::from("no clause"));
-    };
-    let literals = one_and_not_two(rt.alloc())?;
-    assert_eq!(rt; clause.as_slice(), literals.as_slice());
-    Ok(())
+fn a_clause_is_read_by_its_words(rt: HostRuntime) {
+    assert!(rt; reads_one_and_not_two(rt.alloc(), " add\t1 -2 00\r"));
+}
+
+const CALLS: [&str; 28] = [
+    "add 0",
+    "add 1 -2 0",
+    "assume 16777216 0",
+    "under 3 1 0",
+    "under 3 0",
+    "under 3 4 0 1 0",
+    "under 3 4 0",
+    "under 3 0 00",
+    "vars 0",
+    "vars 16777216",
+    "guard",
+    "drop 3",
+    "test",
+    "untest",
+    "reasons -3",
+    "solve",
+    "solve 1",
+    "solve 4294967295",
+    "pause",
+    "resume",
+    "stop",
+    "poll",
+    "wait",
+    "model",
+    "known",
+    "clause 1",
+    "bye",
+    "  bye\r",
+];
+
+fn is_call(alloc: Global, line: &str) -> bool {
+    matches!(read_call(alloc, line.as_bytes()), CallRead::Call(_))
 }
 
 #[test]
 fn lines_of_the_grammar(rt: HostRuntime) {
-    let lines = [
-        "add 0",
-        "add 1 -2 0",
-        "assume 1048576 0",
-        "under 3 1 0",
-        "under 3 0",
-        "vars 0",
-        "vars 1048576",
-        "guard",
-        "drop 3",
-        "test",
-        "untest",
-        "reasons -3",
-        "solve",
-        "solve 1",
-        "solve 4294967295",
-        "pause",
-        "resume",
-        "stop",
-        "poll",
-        "wait",
-        "model",
-        "known",
-        "clause 1",
-        "bye",
-        "  bye\r",
-    ];
-    for line in lines {
-        let read = read_call(rt.alloc(), line.as_bytes());
-        assert!(rt; matches!(read, CallRead::Call(_)), "{line}");
+    for line in CALLS {
+        assert!(rt; is_call(rt.alloc(), line), "{line}");
+    }
+}
+
+const LOADS: [(&str, u32); 4] = [
+    ("load cnf 0", 0),
+    ("load cnf 5", 5),
+    (" load\tcnf 005\r", 5),
+    ("load cnf 16777216", 16_777_216),
+];
+
+fn is_load(alloc: Global, line: &str, bytes: u32) -> bool {
+    match read_call(alloc, line.as_bytes()) {
+        CallRead::Load {
+            kind: Kind::Cnf,
+            len,
+        } => len == bytes,
+        _ => false,
     }
 }
 
 #[test]
 fn loads_have_a_length(rt: HostRuntime) {
-    let rows = [
-        ("load cnf 0", 0),
-        ("load cnf 5", 5),
-        (" load\tcnf 005\r", 5),
-        ("load cnf 16777216", 16_777_216),
-    ];
-    for (line, bytes) in rows {
-        let read = read_call(rt.alloc(), line.as_bytes());
-        assert!(rt;
-            matches!(read, CallRead::Load { kind: Kind::Cnf, len } if len == bytes),
-            "{line}"
-        );
+    for (line, bytes) in LOADS {
+        assert!(rt; is_load(rt.alloc(), line, bytes), "{line}");
     }
+}
+
+const REFUSED: [&str; 33] = [
+    "",
+    " ",
+    "add",
+    "add 1",
+    "add 1 x 0",
+    "add 0 1 0",
+    "add 16777217 0",
+    "vars 16777217",
+    "vars -1",
+    "vars",
+    "vars +1",
+    "solve 0",
+    "solve 4294967296",
+    "solve 1 2",
+    "clause 0",
+    "reasons 0",
+    "drop -3",
+    "under 0",
+    "under 0 1 0",
+    "under 3 -4 0 1 0",
+    "under 3 0 1",
+    "under 3 0 1 0 0",
+    "Bye",
+    "shut",
+    "load",
+    "load cnf",
+    "load cnf -1",
+    "load cnf 16777217",
+    "load cnf 5 5",
+    "load CNF 5",
+    "load aig 5",
+    "frame",
+    "bye bye",
+];
+
+fn is_refused(alloc: Global, line: &str) -> bool {
+    matches!(read_call(alloc, line.as_bytes()), CallRead::Syntax)
 }
 
 #[test]
 fn lines_outside_the_grammar(rt: HostRuntime) {
-    let lines = [
-        "",
-        " ",
-        "add",
-        "add 1",
-        "add 1 x 0",
-        "add 0 1 0",
-        "add 1048577 0",
-        "vars 1048577",
-        "vars -1",
-        "vars",
-        "vars +1",
-        "solve 0",
-        "solve 4294967296",
-        "solve 1 2",
-        "clause 0",
-        "reasons 0",
-        "drop -3",
-        "under 0",
-        "Bye",
-        "shut",
-        "load",
-        "load cnf",
-        "load cnf -1",
-        "load cnf 16777217",
-        "load cnf 5 5",
-        "load CNF 5",
-        "load aig 5",
-        "frame",
-        "bye bye",
-    ];
-    for line in lines {
-        let read = read_call(rt.alloc(), line.as_bytes());
-        assert!(rt; matches!(read, CallRead::Syntax), "{line}");
+    for line in REFUSED {
+        assert!(rt; is_refused(rt.alloc(), line), "{line}");
     }
 }
 
-#[test]
-fn the_last_line_needs_no_end(rt: HostRuntime) -> Result<(), Fail> {
-    let mut reader = Reader::new(rt.alloc());
-    reader.feed(b"bye")?;
-    reader.end();
-    let item = reader.next_item();
-    assert!(rt;
-        matches!(
-            item,
-            Given::Item(Item {
-                line: 1,
-                asked: Asked::Call(Call::Bye)
-            })
-        )
-    );
-    let end = reader.next_item();
-    assert!(rt; matches!(end, Given::Done));
-    Ok(())
-}
-
-// A line, and a word for what it asks for.
+// What is given next: a line and a word for what it asks for, or line 0.
 type Told = (u64, &'static str);
 
-// What is given next, as a word; `load` where it is one of these bytes.
-fn next_word(reader: &mut Reader, loaded: &[u8]) -> Result<Told, Fail>
-    requires { reader.old.line < 2 ^ 63 }
-    ensures { IfOk result (λ word. last_line reader.new ≤ last_line reader.old) }
-{
-    match reader.next_item() {
-        Given::Item(item) => Ok((item.line, word_for(&item.asked, loaded))),
-        Given::More => Ok((0, "more")),
-        Given::Done => Ok((0, "done")),
-        Given::NoMemory => Err(Fail::from("no memory")),
-    }
-}
-
-fn word_for(asked: &Asked, loaded: &[u8]) -> &'static str {
+fn word_for(asked: &Asked, loaded: &str) -> &'static str {
     match asked {
-        Asked::Call(Call::LoadCnf(bytes)) if bytes.as_slice() == loaded => "load",
+        Asked::Call(Call::LoadCnf(bytes)) if bytes.as_slice() == loaded.as_bytes() => "load",
         Asked::Call(Call::Bye) => "bye",
         Asked::Call(_) => "another call",
         Asked::Syntax => "syntax",
@@ -236,76 +249,140 @@ fn word_for(asked: &Asked, loaded: &[u8]) -> &'static str {
     }
 }
 
-// What is given after the first piece, and twice after the second, with which the input ends.
-fn three_words(
-    alloc: Global,
-    pieces: (&[u8], &[u8]),
-    loaded: &[u8],
-) -> Result<(Told, Told, Told), Fail> {
-    let (front, back) = pieces;
-    if front.len() > 100 || back.len() > 100 {
-        return Err(Fail::from("a piece is too long"));
+// Whether an item is as wanted; `load` stands for a load of these bytes.
+fn is_wanted(item: &Item, want: Told, loaded: &str) -> bool {
+    item.line == want.0 && word_for(&item.asked, loaded) == want.1
+}
+
+// Whether this is given next, before the end.
+fn gives(reader: &mut Reader, want: Told, loaded: &str) -> bool
+    requires { last_line reader.old < 2 ^ 63 }
+    ensures { IsTrue result → last_line reader.new ≤ last_line reader.old }
+{
+    match reader.next_item() {
+        Given::Item(item) => is_wanted(&item, want, loaded),
+        Given::More => want.1 == "more",
+        Given::Done => false,
+        Given::NoMemory => false,
     }
+}
+
+// Whether this is given next, or the end is told.
+fn gives_at_last(reader: &mut Reader, want: Told, loaded: &str) -> bool
+    requires { last_line reader.old < 2 ^ 63 }
+{
+    match reader.next_item() {
+        Given::Item(item) => is_wanted(&item, want, loaded),
+        Given::More => false,
+        Given::Done => want.1 == "done",
+        Given::NoMemory => false,
+    }
+}
+
+// A front of an input, the rest, the bytes of its load, what is given after the front and twice at the end.
+type Row = (&'static str, &'static str, &'static str, [Told; 3]);
+
+const ROWS: [Row; 13] = [
+    ("bye", "", "", [(0, "more"), (1, "bye"), (0, "done")]),
+    (
+        "load cnf 4\na\n",
+        "b\nbye\n",
+        "a\nb\n",
+        [(0, "more"), (1, "load"), (2, "bye")],
+    ),
+    (
+        "load cnf 3\nbye",
+        "bye",
+        "bye",
+        [(1, "load"), (2, "bye"), (0, "done")],
+    ),
+    (
+        "load cnf 0\nbye\n",
+        "",
+        "",
+        [(1, "load"), (2, "bye"), (0, "done")],
+    ),
+    (
+        "load cnf 0",
+        "",
+        "",
+        [(0, "more"), (1, "load"), (0, "done")],
+    ),
+    (
+        "load cnf 9\nbye\n",
+        "bye",
+        "",
+        [(0, "more"), (1, "syntax"), (0, "done")],
+    ),
+    (
+        "load cnf 1",
+        "",
+        "",
+        [(0, "more"), (1, "syntax"), (0, "done")],
+    ),
+    (
+        "load aig 4\nbye\n",
+        "",
+        "",
+        [(1, "syntax"), (2, "bye"), (0, "done")],
+    ),
+    (
+        "add 1 +\r\n+\n2 0\nbye\n",
+        "",
+        "",
+        [(1, "another call"), (4, "bye"), (0, "done")],
+    ),
+    (
+        "vars 1 +\nadd 1 +\nx 0\n",
+        "poll\n",
+        "",
+        [(1, "syntax"), (2, "syntax"), (4, "another call")],
+    ),
+    (
+        "add 1 +\n",
+        "",
+        "",
+        [(0, "more"), (1, "syntax"), (0, "done")],
+    ),
+    (
+        "under 1 + 2 0\nbye\n",
+        "add +",
+        "",
+        [(1, "syntax"), (2, "bye"), (3, "syntax")],
+    ),
+    (
+        "load cnf 6\nadd +\n",
+        "bye\n",
+        "add +\n",
+        [(1, "load"), (2, "bye"), (0, "done")],
+    ),
+];
+
+fn gives_all(alloc: Global, front: &str, back: &str, loaded: &str, want: [Told; 3]) -> bool {
+    if front.len() > 100 || back.len() > 100 {
+        return false;
+    }
+    let [first, second, third] = want;
     let mut reader = Reader::new(alloc);
-    reader.feed(front)?;
-    let first = next_word(&mut reader, loaded)?;
-    reader.feed(back)?;
+    if reader.feed(front.as_bytes()).is_err() {
+        return false;
+    }
+    if !gives(&mut reader, first, loaded) {
+        return false;
+    }
+    if reader.feed(back.as_bytes()).is_err() {
+        return false;
+    }
     reader.end();
-    let second = next_word(&mut reader, loaded)?;
-    let third = next_word(&mut reader, loaded)?;
-    Ok((first, second, third))
+    if !gives(&mut reader, second, loaded) {
+        return false;
+    }
+    gives_at_last(&mut reader, third, loaded)
 }
 
 #[test]
-fn the_bytes_of_loads_are_no_lines(rt: HostRuntime) -> Result<(), Fail> {
-    let rows = [
-        (
-            "load cnf 4\na\n",
-            "b\nbye\n",
-            "a\nb\n",
-            ((0, "more"), (1, "load"), (2, "bye")),
-        ),
-        (
-            "load cnf 3\nbye",
-            "bye",
-            "bye",
-            ((1, "load"), (2, "bye"), (0, "done")),
-        ),
-        (
-            "load cnf 0\nbye\n",
-            "",
-            "",
-            ((1, "load"), (2, "bye"), (0, "done")),
-        ),
-        (
-            "load cnf 0",
-            "",
-            "",
-            ((0, "more"), (1, "load"), (0, "done")),
-        ),
-        (
-            "load cnf 9\nbye\n",
-            "bye",
-            "",
-            ((0, "more"), (1, "syntax"), (0, "done")),
-        ),
-        (
-            "load cnf 1",
-            "",
-            "",
-            ((0, "more"), (1, "syntax"), (0, "done")),
-        ),
-        (
-            "load aig 4\nbye\n",
-            "",
-            "",
-            ((1, "syntax"), (2, "bye"), (0, "done")),
-        ),
-    ];
-    for (front, back, loaded, words) in rows {
-        let pieces = (front.as_bytes(), back.as_bytes());
-        let told = three_words(rt.alloc(), pieces, loaded.as_bytes())?;
-        assert_eq!(rt; told, words);
+fn items_are_lines_and_loads(rt: HostRuntime) {
+    for (front, back, loaded, want) in ROWS {
+        assert!(rt; gives_all(rt.alloc(), front, back, loaded, want), "{front}");
     }
-    Ok(())
 }

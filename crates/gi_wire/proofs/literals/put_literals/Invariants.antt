@@ -1,7 +1,7 @@
 use Rattle.std.proofs.Common.{ℕ, List, take, ◌++◌}
 use Rattle.std.specs.List.{flat_map}
+use Rattle.gi_outside.specs.Outbox.{Stands}
 use Rattle.gi_outside.specs.World.{World}
-use Rattle.gi_wire.specs.Outbox.{Stands}
 use Rattle.gi_wire.specs.Literals.{literal_text}
 use Rattle.gi_wire.proofs.literals.put_literals.Given as goal
 

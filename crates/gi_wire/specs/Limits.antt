@@ -1,0 +1,10 @@
+-- How long lines are.
+use Rattle.std.specs.Prelude.{ℕ}
+
+-- the most bytes of a line, its LF not counted
+abbrev pub most_line : ℕ
+most_line = 1048576
+
+-- the most bytes of lines that are joined, their LFs not counted
+abbrev pub most_joined : ℕ
+most_joined = 67108864
