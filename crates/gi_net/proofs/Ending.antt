@@ -1,6 +1,7 @@
 -- How a session ends.
-use Rattle.std.proofs.Common.{◌≡◌, ℕ, ◌^◌, ◌<◌, ◌≤◌, inl, inr, List, [], ◌∷◌, ◌++◌, length, map, Some, None, Bool, true, false, refl, ap, sym, ◌∙◌, subst, arith}
+use Rattle.std.proofs.Common.{◌≡◌, ℕ, ◌^◌, ◌<◌, ◌≤◌, ◌⊎◌, inl, inr, List, [], ◌∷◌, ◌++◌, length, drop, map, Some, None, Bool, true, false, refl, ap, sym, ◌∙◌, subst, arith}
 use Rattle.std.specs.List.{AllByRecursion}
+use Rattle.std.proofs.Math.Seq.{drop-append_seam}
 use Rattle.std.proofs.lemmas.List.{append-nil}
 use Rattle.gi_outside.specs.Link.{Rose, ins, outs}
 use Rattle.gi_outside.specs.Told.{Adds, Takes}
@@ -12,7 +13,9 @@ use Rattle.gi_model.specs.declared.calls.Call.TheVariants as call
 use Rattle.gi_model.specs.declared.replies.Reply.{Reply}
 use Rattle.gi_model.specs.declared.replies.Reply.TheVariants as reply
 use Rattle.gi_model.specs.declared.refusal.Refusal.TheVariants as refusal
-use Rattle.gi_wire.specs.Gives.{GivesItem}
+use Rattle.gi_outside.specs.declared.link.Piece.{Piece}
+use Rattle.gi_outside.specs.declared.link.Piece.TheVariants.{In, Out}
+use Rattle.gi_wire.specs.Gives.{AsksMemory, GivesItem, TakesMemory}
 use Rattle.gi_wire.specs.Items.{items}
 use Rattle.gi_wire.specs.Source.{Source, ahead}
 use Rattle.gi_wire.specs.Text.{text}
@@ -25,17 +28,18 @@ use Rattle.gi_net.specs.Answers.{Answer, answers, texts}
 use Rattle.gi_net.specs.Entries.{all_own_of, own_of, replies}
 use Rattle.gi_net.specs.Going.{Going, SoFar}
 use Rattle.gi_net.specs.Served.{Ends, EndsBy, IsPrompt, IsQuiet}
+use Rattle.gi_net.specs.Over.{IsBehindRead, NextTakesMemory, Over, Wanted}
 use Rattle.gi_net.specs.Session.{HasCause, IsWaitFirst, Session}
 use Rattle.gi_net.specs.Standing.{Standing}
 use Rattle.gi_net.specs.Told.{Answers, AnswersItem, Closes, TellsNoMemory, Told, ToldCut, Unanswered, entry_of}
 use Rattle.gi_net.proofs.Answering.{All-append, given_more, texts_more}
-use Rattle.gi_net.proofs.Moving.{answered, broke_off, has_ended, wrote_on}
+use Rattle.gi_net.proofs.Moving.{answered, broke_off, has_ended, wrote_on, wrote_on_added}
 use Rattle.gi_net.proofs.Works.{works-map}
 
 -- a session that went so far ends
 pub session : {last : Type 0} {start w : World} {first h : Standing} {s : Source} {taken : ℕ} {done : List Item} {own : List Entry} {out : List ℕ} (by : How)
     → SoFar last start w first h s taken done own out → w.ended ≡ s.lines.ended → (last → IsWaitFirst (ahead s s.lines.ended []))
-    → Ends by s.lines.ended taken h.left (answers done (replies own)) (ahead s s.lines.ended []) out → HasCause by start w
+    → Ends by s.lines.ended taken (h.left ≡ 0) (answers done (replies own)) (ahead s s.lines.ended []) out → HasCause by start w
     → Session start w first h by
 session {last = last} {w = w} {first = first} {h = h} {s = s} {taken = taken} {done = done} {own = own} {out = out} by was same wait ends cause = record {
   added = was.added;
@@ -55,18 +59,42 @@ session {last = last} {w = w} {first = first} {h = h} {s = s} {taken = taken} {d
     ends = moved was.own_is was.out_is was.taken_is same;
   };
   prompt = subst (λ (xs : List Entry). IsPrompt xs was.added) (sym was.own_is) was.prompt;
+  pieces = was.pieces;
   works = works-map last (IsWaitFirst (ahead s s.lines.ended [])) (all_own_of first.number was.entries) wait was.works;
   cause = cause;
 } where
-  moved : own_of first.number was.entries ≡ own → outs was.added ≡ out → length (ins was.added) ≡ taken → w.ended ≡ s.lines.ended → Ends by w.ended (length (ins was.added)) h.left (answers done (replies (own_of first.number was.entries))) (ahead s s.lines.ended []) (outs was.added)
+  moved : own_of first.number was.entries ≡ own → outs was.added ≡ out → length (ins was.added) ≡ taken → w.ended ≡ s.lines.ended → Ends by w.ended (length (ins was.added)) (h.left ≡ 0) (answers done (replies (own_of first.number was.entries))) (ahead s s.lines.ended []) (outs was.added)
   moved a b c d = rw (a, b, c, d) ends
 
+-- with what memory was asked for
+over : {last starved : Type 0} {start w : World} {first h : Standing} {s : Source} {taken : ℕ} {done : List Item} {own : List Entry} {out : List ℕ} (by : How)
+    (was : SoFar last start w first h s taken done own out) → w.ended ≡ s.lines.ended → (last → IsWaitFirst (ahead s s.lines.ended []))
+    → Ends by s.lines.ended taken (h.left ≡ 0) (answers done (replies own)) (ahead s s.lines.ended []) out → HasCause by start w
+    → (by ≡ how.NoMemory → Wanted starved (AsksMemory s) (answers done (replies own)) was.added)
+    → Over start w first h starved by
+unfolding session
+over {starved = starved} {w = w} {first = first} {s = s} {done = done} {own = own} by was same wait ends cause wanted = record {
+  session = session by was same wait ends cause;
+  wanted = λ e. told (wanted e);
+} where
+  next : AsksMemory s → NextTakesMemory (ins was.added) w.ended done
+  next asks = record {
+    each = λ e more comes. subst TakesMemory (sym (ap (drop (length done)) (was.items_are e more (λ h. comes (same ∙ h))) ∙ drop-append_seam done (ahead s e more))) (asks.each e more (λ h. comes (same ∙ h)));
+  }
+
+  told : Wanted starved (AsksMemory s) (answers done (replies own)) was.added → Wanted starved (NextTakesMemory (ins was.added) w.ended done) (answers done (replies (own_of first.number was.entries))) was.added
+  told (inl by_reply) = inl (subst (λ (xs : List Entry). EndsBy (answers done (replies xs)) reply.NoMemory) (sym was.own_is) by_reply)
+  told (inr (inl poor)) = inr (inl poor)
+  told (inr (inr (inl asks))) = inr (inr (inl (next asks)))
+  told (inr (inr (inr read))) = inr (inr (inr read))
+
 -- where no item is pending
-plain : {start w : World} {first h : Standing} {s : Source} {taken : ℕ} {done : List Item} {own : List Entry} {out : List ℕ} (by : How)
-    → SoFar ⊥ start w first h s taken done own out → w.ended ≡ s.lines.ended
-    → Ends by s.lines.ended taken h.left (answers done (replies own)) (ahead s s.lines.ended []) out → HasCause by start w
-    → Session start w first h by
-plain by was same ends cause = session by was same (λ x. absurd x) ends cause
+plain : {starved : Type 0} {start w : World} {first h : Standing} {s : Source} {taken : ℕ} {done : List Item} {own : List Entry} {out : List ℕ} (by : How)
+    (was : SoFar ⊥ start w first h s taken done own out) → w.ended ≡ s.lines.ended
+    → Ends by s.lines.ended taken (h.left ≡ 0) (answers done (replies own)) (ahead s s.lines.ended []) out → HasCause by start w
+    → (by ≡ how.NoMemory → Wanted starved (AsksMemory s) (answers done (replies own)) was.added)
+    → Over start w first h starved by
+plain by was same ends cause wanted = over by was same (λ x. absurd x) ends cause wanted
 
 -- the session goes on after such an answer
 pub quiet_of : (i : Item) (r : Reply) → Answers i.asked r → Closes None r → IsQuiet (record { item = i; reply = r })
@@ -81,11 +109,11 @@ bye_asked asked.Syntax r m e = let no = sym m ∙ e in cc
 bye_asked asked.Long r m e = let no = sym m ∙ e in cc
 
 -- an answer ends the session
-line_closed : {start v : World} {first h : Standing} {s : Source} {taken : ℕ} (w : World) (k : Standing) (t : Source) (i : Item) (by : How)
+line_closed : {starved : Type 0} {start v : World} {first h : Standing} {s : Source} {taken : ℕ} (w : World) (k : Standing) (t : Source) (i : Item) (by : How)
     → Going start v first h s taken → v.ended ≡ s.lines.ended → GivesItem i s t
-    → Told (Some by) i h k v w → Session start w first k by
-line_closed {start = start} {first = first} {h = h} {s = s} {taken = taken} w k t i by going same gives told =
-    plain by (answered w k t i told.reply (text i.line told.reply) going.so_far gives told.took told.wrote) (told.wrote.ended ∙ same ∙ sym gives.ended) (ends by told.closes) (cause by told.closes) where
+    → Told (Some by) i h k v w → Over start w first k starved by
+line_closed {starved = starved} {start = start} {first = first} {h = h} {s = s} {taken = taken} w k t i by going same gives told =
+    plain by (answered w k t i told.reply (text i.line told.reply) going.so_far gives told.took told.wrote) (told.wrote.ended ∙ same ∙ sym gives.ended) (ends by told.closes) (cause by told.closes) (wanted by told.closes) where
       split : answers (going.done ++ i ∷ []) (replies (going.own ++ entry_of first.number i.asked told.reply)) ≡ answers going.done (replies going.own) ++ (record { item = i; reply = told.reply }) ∷ []
       split = given_more going.done going.own first.number i told.reply going.so_far.calls_are told.took.may_be
 
@@ -95,7 +123,16 @@ line_closed {start = start} {first = first} {h = h} {s = s} {taken = taken} w k 
       by_reply : (r : Reply) → told.reply ≡ r → EndsBy (answers (going.done ++ i ∷ []) (replies (going.own ++ entry_of first.number i.asked told.reply))) r
       by_reply r is = record { before = answers going.done (replies going.own); last = record { item = i; reply = told.reply }; split = split; quiet = going.quiet; is = is }
 
-      ends : (by : How) → Closes (Some by) told.reply → Ends by t.lines.ended taken k.left (answers (going.done ++ i ∷ []) (replies (going.own ++ entry_of first.number i.asked told.reply))) (ahead t t.lines.ended []) (texts (answers going.done (replies going.own)) ++ text i.line told.reply)
+      wanted : (by : How) → Closes (Some by) told.reply → by ≡ how.NoMemory → Wanted starved (AsksMemory t) (answers (going.done ++ i ∷ []) (replies (going.own ++ entry_of first.number i.asked told.reply))) (answered w k t i told.reply (text i.line told.reply) going.so_far gives told.took told.wrote).added
+      wanted how.NoMemory is e = inl (by_reply reply.NoMemory is)
+      wanted how.Bye is e = absurd cc
+      wanted how.Dead is e = absurd cc
+      wanted how.Eof is e = absurd is
+      wanted how.ReadFault is e = absurd is
+      wanted how.WriteFault is e = absurd is
+      wanted how.TooMuch is e = absurd is
+
+      ends : (by : How) → Closes (Some by) told.reply → Ends by t.lines.ended taken (k.left ≡ 0) (answers (going.done ++ i ∷ []) (replies (going.own ++ entry_of first.number i.asked told.reply))) (ahead t t.lines.ended []) (texts (answers going.done (replies going.own)) ++ text i.line told.reply)
       ends how.Bye is = (record { by = record { before = answers going.done (replies going.own); last = record { item = i; reply = told.reply }; split = split; quiet = going.quiet; is = is }; asked = bye_asked i.asked told.reply told.took.may_be is }, out_is)
       ends how.NoMemory is = inl (by_reply reply.NoMemory is, out_is)
       ends how.Dead is = (by_reply (reply.Refused refusal.Dead) is, out_is)
@@ -114,28 +151,44 @@ line_closed {start = start} {first = first} {h = h} {s = s} {taken = taken} w k 
       cause how.TooMuch is = absurd is
 
 -- an answer was cut
-line_cut : {start v : World} {first h : Standing} {s : Source} {taken : ℕ} (w : World) (k : Standing) (t : Source) (i : Item)
+line_cut : {starved : Type 0} {start v : World} {first h : Standing} {s : Source} {taken : ℕ} (w : World) (k : Standing) (t : Source) (i : Item)
     → Going start v first h s taken → v.ended ≡ s.lines.ended → GivesItem i s t
-    → ToldCut i h k v w → Session start w first k how.WriteFault
+    → ToldCut i h k v w → Over start w first k starved how.WriteFault
 line_cut {start = start} {v = v} {first = first} {s = s} w k t i going same gives told =
     plain how.WriteFault (answered w k t i told.reply told.cut.sent going.so_far gives told.took told.cut.wrote) (told.cut.wrote.ended ∙ same ∙ sym gives.ended)
     (inl (record { before = answers going.done (replies going.own); last = record { item = i; reply = told.reply }; split = given_more going.done going.own first.number i told.reply going.so_far.calls_are told.took.may_be; quiet = going.quiet; cut = told.cut.sent; is_cut = told.cut.cut; out_is = refl }))
-    (rose_since start.failed_writes v.failed_writes w.failed_writes going.so_far.writes told.cut.cause)
+    (rose_since start.failed_writes v.failed_writes w.failed_writes going.so_far.writes told.cut.cause) (λ e. absurd cc)
+
+-- a tape that ends with what was read
+pub record EndsInRead (tape : List Piece) : Type 0 where
+  pub before : List Piece
+  pub bytes : List ℕ
+  pub split : tape ≡ before ++ In bytes ∷ []
 
 -- there was no memory, and `nomem` was written or a front of it
-pub no_memory : {last : Type 0} {start v : World} {first h : Standing} {s : Source} {taken : ℕ} {done : List Item} {own : List Entry} (w : World) (by : How)
-    → SoFar last start v first h s taken done own (texts (answers done (replies own))) → AllByRecursion IsQuiet (answers done (replies own)) → v.ended ≡ s.lines.ended → (last → IsWaitFirst (ahead s s.lines.ended []))
-    → TellsNoMemory by v w → Session start w first h by
-no_memory w how.NoMemory was quiet same wait wrote = session how.NoMemory (wrote_on w (text 0 reply.NoMemory) was wrote) (wrote.ended ∙ same) wait (inr (quiet, refl)) tt
-no_memory {start = start} {v = v} w how.WriteFault was quiet same wait cut =
-    session how.WriteFault (wrote_on w cut.sent was cut.wrote) (cut.wrote.ended ∙ same) wait
+pub no_memory : {last starved : Type 0} {start v : World} {first h : Standing} {s : Source} {taken : ℕ} {done : List Item} {own : List Entry} (w : World) (by : How)
+    (was : SoFar last start v first h s taken done own (texts (answers done (replies own)))) → AllByRecursion IsQuiet (answers done (replies own)) → v.ended ≡ s.lines.ended → (last → IsWaitFirst (ahead s s.lines.ended []))
+    → starved ⊎ (AsksMemory s ⊎ EndsInRead was.added)
+    → TellsNoMemory by v w → Over start w first h starved by
+no_memory {starved = starved} {s = s} w how.NoMemory was quiet same wait asked wrote =
+    over how.NoMemory (wrote_on w (text 0 reply.NoMemory) was wrote) (wrote.ended ∙ same) wait (inr (quiet, refl)) tt
+    (λ e. inr (behind asked)) where
+      split : (read : EndsInRead was.added) → (wrote_on w (text 0 reply.NoMemory) was wrote).added ≡ (read.before ++ In read.bytes ∷ []) ++ map Out wrote.pieces
+      split read = wrote_on_added w (text 0 reply.NoMemory) was wrote ∙ ap (λ (ps : List Piece). ps ++ map Out wrote.pieces) read.split
+
+      behind : starved ⊎ (AsksMemory s ⊎ EndsInRead was.added) → starved ⊎ (AsksMemory s ⊎ IsBehindRead (wrote_on w (text 0 reply.NoMemory) was wrote).added)
+      behind (inl poor) = inl poor
+      behind (inr (inl takes)) = inr (inl takes)
+      behind (inr (inr read)) = inr (inr (record { before = read.before; bytes = read.bytes; pieces = wrote.pieces; split = split read; joined = wrote.joined }))
+no_memory {start = start} {v = v} w how.WriteFault was quiet same wait asked cut =
+    over how.WriteFault (wrote_on w cut.sent was cut.wrote) (cut.wrote.ended ∙ same) wait
     (inr (record { quiet = quiet; cut = cut.sent; is_cut = cut.cut; out_is = refl }))
-    (rose_since start.failed_writes v.failed_writes w.failed_writes was.writes cut.cause)
-no_memory w how.Bye was quiet same wait none = absurd none
-no_memory w how.Eof was quiet same wait none = absurd none
-no_memory w how.Dead was quiet same wait none = absurd none
-no_memory w how.ReadFault was quiet same wait none = absurd none
-no_memory w how.TooMuch was quiet same wait none = absurd none
+    (rose_since start.failed_writes v.failed_writes w.failed_writes was.writes cut.cause) (λ e. absurd cc)
+no_memory w how.Bye was quiet same wait asked none = absurd none
+no_memory w how.Eof was quiet same wait asked none = absurd none
+no_memory w how.Dead was quiet same wait asked none = absurd none
+no_memory w how.ReadFault was quiet same wait asked none = absurd none
+no_memory w how.TooMuch was quiet same wait asked none = absurd none
 
 -- the item that has no answer is the first of those ahead
 first_is : (s t : Source) (i : Item) → GivesItem i s t → ahead s s.lines.ended [] ≡ i ∷ ahead t s.lines.ended []
@@ -145,31 +198,31 @@ waits_first : (s t : Source) (i : Item) (what : Call) → GivesItem i s t → i.
 waits_first s t i what gives is wait = subst IsWaitFirst (sym (first_is s t i gives)) (is ∙ ap asked.Call wait)
 
 -- a call has no entry, for want of memory
-unentered : {start v : World} {first h : Standing} {s : Source} {taken : ℕ} (w : World) (k : Standing) (t : Source) (i : Item) (by : How)
+unentered : {starved : Type 0} {start v : World} {first h : Standing} {s : Source} {taken : ℕ} (w : World) (k : Standing) (t : Source) (i : Item) (by : How)
     → Going start v first h s taken → v.ended ≡ s.lines.ended → GivesItem i s t
-    → Unanswered i h k → TellsNoMemory by v w → Session start w first k by
-unentered {s = s} w k t i by going same gives goes_on told =
-    no_memory w by (broke_off k goes_on.what going.so_far goes_on.breaks) going.quiet same (waits_first s t i goes_on.what gives goes_on.asked_is) told
+    → Unanswered i h k → starved → TellsNoMemory by v w → Over start w first k starved by
+unentered {s = s} w k t i by going same gives goes_on poor told =
+    no_memory w by (broke_off k goes_on.what going.so_far goes_on.breaks) going.quiet same (waits_first s t i goes_on.what gives goes_on.asked_is) (inl poor) told
 
 -- no call was left for a line
-unserved : {start v : World} {first h : Standing} {s : Source} {taken : ℕ} (k : Standing) (t : Source) (i : Item)
+unserved : {starved : Type 0} {start v : World} {first h : Standing} {s : Source} {taken : ℕ} (k : Standing) (t : Source) (i : Item)
     → Going start v first h s taken → v.ended ≡ s.lines.ended → GivesItem i s t
-    → Unanswered i h k → k.left ≡ 0 → Session start v first k how.TooMuch
+    → Unanswered i h k → k.left ≡ 0 → Over start v first k starved how.TooMuch
 unserved {s = s} k t i going same gives goes_on none =
-    session how.TooMuch (broke_off k goes_on.what going.so_far goes_on.breaks) same (waits_first s t i goes_on.what gives goes_on.asked_is)
-    (inr (there, none), going.quiet, refl) tt where
+    over how.TooMuch (broke_off k goes_on.what going.so_far goes_on.breaks) same (waits_first s t i goes_on.what gives goes_on.asked_is)
+    (inr (there, none), going.quiet, refl) tt (λ e. absurd cc) where
       there : 0 < length (ahead s s.lines.ended [])
       there = rw (first_is s t i gives) (omega arith)
 
 -- an item was answered so that the session ends
-pub item_ends : {start v : World} {first h : Standing} {s : Source} {taken : ℕ} (w : World) (k : Standing) (t : Source) (i : Item) (by : How)
+pub item_ends : {starved : Type 0} {start v : World} {first h : Standing} {s : Source} {taken : ℕ} (w : World) (k : Standing) (t : Source) (i : Item) (by : How)
     → Going start v first h s taken → v.ended ≡ s.lines.ended → GivesItem i s t
-    → AnswersItem (Some by) i h k v w → Session start w first k by
+    → AnswersItem (Some by) i h k starved v w → Over start w first k starved by
 item_ends w k t i how.WriteFault going same gives (inl told) = line_cut w k t i going same gives told
-item_ends w k t i how.WriteFault going same gives (inr told) = unentered w k t i how.WriteFault going same gives told.0 told.1
+item_ends w k t i how.WriteFault going same gives (inr told) = unentered w k t i how.WriteFault going same gives told.0 told.1 told.2
 item_ends w k t i how.NoMemory going same gives (inl told) = line_closed w k t i how.NoMemory going same gives told
-item_ends w k t i how.NoMemory going same gives (inr told) = unentered w k t i how.NoMemory going same gives told.0 told.1
-item_ends {start = start} {first = first} w k t i how.TooMuch going same gives told = subst (λ (u : World). Session start u first k how.TooMuch) (sym told.2) (unserved k t i going same gives told.0 told.1)
+item_ends w k t i how.NoMemory going same gives (inr told) = unentered w k t i how.NoMemory going same gives told.0 told.1 told.2
+item_ends {starved = starved} {start = start} {first = first} w k t i how.TooMuch going same gives told = subst (λ (u : World). Over start u first k starved how.TooMuch) (sym told.2) (unserved k t i going same gives told.0 told.1)
 item_ends w k t i how.Bye going same gives told = line_closed w k t i how.Bye going same gives told
 item_ends w k t i how.Eof going same gives told = line_closed w k t i how.Eof going same gives told
 item_ends w k t i how.Dead going same gives told = line_closed w k t i how.Dead going same gives told
@@ -191,18 +244,18 @@ item_goes {start = start} {first = first} {taken = taken} w k t i going gives to
     }
 
 -- every line was answered
-pub ends_eof : {start w : World} {first h : Standing} {s : Source} {taken : ℕ} → Going start w first h s taken → w.ended ≡ s.lines.ended → s.lines.ended ≡ true → ahead s true [] ≡ [] → Session start w first h how.Eof
-ends_eof {s = s} going same ended none = plain how.Eof going.so_far same (ended, ap (λ (e : Bool). ahead s e []) ended ∙ none, going.quiet, refl) tt
+pub ends_eof : {starved : Type 0} {start w : World} {first h : Standing} {s : Source} {taken : ℕ} → Going start w first h s taken → w.ended ≡ s.lines.ended → s.lines.ended ≡ true → ahead s true [] ≡ [] → Over start w first h starved how.Eof
+ends_eof {s = s} going same ended none = plain how.Eof going.so_far same (ended, ap (λ (e : Bool). ahead s e []) ended ∙ none, going.quiet, refl) tt (λ e. absurd cc)
 
 -- a read failed
-pub ends_read_fault : {start v : World} {first h : Standing} {s : Source} {taken : ℕ} (w : World)
+pub ends_read_fault : {starved : Type 0} {start v : World} {first h : Standing} {s : Source} {taken : ℕ} (w : World)
     → Going start v first h s taken → ahead s false [] ≡ [] → s.lines.ended ≡ false
     → Adds v.tape w.tape [] → Takes v.rest w.rest [] → v.failed_reads ≤ w.failed_reads → w.failed_writes ≡ v.failed_writes → w.ended ≡ false → Rose v.failed_reads w.failed_reads
-    → Session start w first h how.ReadFault
+    → Over start w first h starved how.ReadFault
 ends_read_fault {start = start} {v = v} {s = s} w going none goes_on tape rest reads writes same rose =
     let now = has_ended w s going goes_on tape rest reads writes (λ e more. refl) in
-    plain how.ReadFault now.so_far (same ∙ sym goes_on) (ap (λ (e : Bool). ahead s e []) goes_on ∙ none, now.quiet, refl) (rose_since start.failed_reads v.failed_reads w.failed_reads going.so_far.reads rose)
+    plain how.ReadFault now.so_far (same ∙ sym goes_on) (ap (λ (e : Bool). ahead s e []) goes_on ∙ none, now.quiet, refl) (rose_since start.failed_reads v.failed_reads w.failed_reads going.so_far.reads rose) (λ e. absurd cc)
 
 -- so many bytes were taken
-pub ends_too_much : {start w : World} {first h : Standing} {s : Source} {taken : ℕ} → Going start w first h s taken → w.ended ≡ s.lines.ended → 2 ^ 62 ≤ taken → Session start w first h how.TooMuch
-ends_too_much going same many = plain how.TooMuch going.so_far same (inl many, going.quiet, refl) tt
+pub ends_too_much : {starved : Type 0} {start w : World} {first h : Standing} {s : Source} {taken : ℕ} → Going start w first h s taken → w.ended ≡ s.lines.ended → 2 ^ 62 ≤ taken → Over start w first h starved how.TooMuch
+ends_too_much going same many = plain how.TooMuch going.so_far same (inl many, going.quiet, refl) tt (λ e. absurd cc)

@@ -14,18 +14,20 @@ use Rattle.gi_model.specs.declared.calls.Call.{Call}
 use Rattle.gi_model.specs.declared.calls.Call.TheVariants as call
 use Rattle.gi_model.specs.declared.replies.Reply.{Reply}
 use Rattle.gi_wire.specs.Gives.{GivesItem, SameAhead}
-use Rattle.gi_wire.specs.Items.{items, items_from}
+use Rattle.gi_wire.specs.Items.{alone, items, items_from}
+use Rattle.gi_wire.specs.Limits.{most_line}
 use Rattle.gi_wire.specs.Source.{Source, ahead, goes_on}
 use Rattle.gi_wire.specs.declared.reader.Item.{Item}
 use Rattle.gi_net.specs.Answers.{answers, call_in, calls, texts}
 use Rattle.gi_net.specs.Calls.{BreaksOff}
 use Rattle.gi_net.specs.Entries.{WorksForWaits, all_own_of, own_of, replies}
 use Rattle.gi_net.specs.Going.{Going, SoFar}
+use Rattle.gi_net.specs.Served.{IsShort}
 use Rattle.gi_net.specs.Standing.{Standing}
 use Rattle.gi_net.specs.Told.{TookAs, Took, entry_of}
 use Rattle.gi_net.proofs.Works.{all_own_entry, own_entry, works_broken, works_taken}
-use Rattle.gi_net.proofs.Answering.{calls-append, calls_of_entry, replies_fit}
-use Rattle.gi_net.proofs.Prompting.{ins_of_outs, outs_of_outs, prompt_kept, prompt_on, prompt_outs}
+use Rattle.gi_net.proofs.Answering.{All-append, calls-append, calls_of_entry, replies_fit}
+use Rattle.gi_net.proofs.Prompting.{ins_of_outs, outs_of_outs, prompt_kept, prompt_on, prompt_outs, short_outs}
 
 two_takes : (x y : List ℕ) (c : Option (List ℕ)) → option_map (λ xs. x ++ xs) (option_map (λ xs. y ++ xs) c) ≡ option_map (λ xs. (x ++ y) ++ xs) c
 two_takes x y None = refl
@@ -61,6 +63,7 @@ begun w first s same = record {
     items_are = λ e more comes. ap (λ (xs : List ℕ). items e (xs ++ more)) ins_nil ∙ same e more;
     calls_are = refl;
     prompt = tt;
+    pieces = tt;
   };
   quiet = tt;
 }
@@ -88,7 +91,13 @@ wrote_on {start = start} {v = v} {own = own} {out = out} w bytes was wrote =
       items_are = λ e more comes. ap (λ xs. items e (xs ++ more)) read ∙ was.items_are e more comes;
       calls_are = was.calls_are;
       prompt = prompt_on own [] [] was.added (map Out wrote.pieces) was.prompt (prompt_outs own (ins was.added) (outs was.added) wrote.pieces);
+      pieces = All-append IsShort was.added (map Out wrote.pieces) was.pieces (short_outs wrote.pieces);
     }
+
+pub wrote_on_added : {last : Type 0} {start v : World} {first h : Standing} {s : Source} {taken : ℕ} {done : List Item} {own : List Entry} {out : List ℕ} (w : World) (bytes : List ℕ)
+    (was : SoFar last start v first h s taken done own out) (wrote : Wrote v w bytes) → (wrote_on w bytes was wrote).added ≡ was.added ++ map Out wrote.pieces
+unfolding wrote_on
+wrote_on_added w bytes was wrote = refl
 
 -- the same entries, by the number that the caller has had from the first
 took_first : {n m : ℕ} {r : Reply} {h k : Standing} (i : Item) → n ≡ m → TookAs n i.asked r h k → TookAs m i.asked r h k
@@ -122,6 +131,7 @@ entered {first = first} {h = h} {s = s} {done = done} {own = own} k t i r was gi
       calls_are = map-append (λ (e : Entry). e.call) own entry ∙ ap (λ xs. xs ++ map (λ (e : Entry). e.call) entry) was.calls_are
           ∙ ap (λ xs. calls done ++ xs) (calls_of_entry n i.asked r ∙ sym (append-nil (option_to_list (call_in i.asked)))) ∙ sym (calls-append done (i ∷ []));
       prompt = prompt_kept own entry [] [] was.added was.prompt;
+      pieces = was.pieces;
     }
 
 -- an item was answered, and these bytes were written
@@ -156,6 +166,7 @@ broke_off {first = first} {own = own} k what was breaks =
       items_are = was.items_are;
       calls_are = was.calls_are;
       prompt = was.prompt;
+      pieces = was.pieces;
     }
 
 one_in : (piece : List ℕ) → ins (In piece ∷ []) ≡ piece
@@ -170,9 +181,9 @@ none_out piece = refl
 pub has_read : {start v : World} {first h : Standing} {s : Source} {taken : ℕ} (w : World) (t : Source) (piece : List ℕ)
     → Going start v first h s taken → ahead s false [] ≡ [] → s.lines.ended ≡ false
     → Adds v.tape w.tape (In piece ∷ []) → Takes v.rest w.rest piece → v.failed_reads ≤ w.failed_reads → w.failed_writes ≡ v.failed_writes
-    → ((ended : Bool) (more : List ℕ) → ahead t ended more ≡ ahead s ended (piece ++ more))
+    → ((ended : Bool) (more : List ℕ) → ahead t ended more ≡ ahead s ended (piece ++ more)) → length piece ≤ 4096
     → Going start w first h t (taken + length piece)
-has_read {start = start} {v = v} {s = s} {taken = taken} w t piece going none going_on tape rest reads writes fed =
+has_read {start = start} {v = v} {s = s} {taken = taken} w t piece going none going_on tape rest reads writes fed few =
     let was = going.so_far in
     let read : ins (was.added ++ In piece ∷ []) ≡ ins was.added ++ piece = ins-append was.added (In piece ∷ []) ∙ ap (λ xs. ins was.added ++ xs) (one_in piece) in
     let all_done : items false (ins was.added) ≡ going.done =
@@ -198,10 +209,19 @@ has_read {start = start} {v = v} {s = s} {taken = taken} w t piece going none go
             ∙ was.items_are e (piece ++ more) (λ x. (let no = sym going_on ∙ x in cc)) ∙ ap (λ xs. going.done ++ xs) (sym (fed e more));
         calls_are = was.calls_are;
         prompt = prompt_on going.own [] [] was.added (In piece ∷ []) was.prompt
-            ((rw all_done (omega (arith, replies_fit going.done going.own was.calls_are, length-map going.own (λ (e : Entry). e.reply))), was.out_is ∙ ap (λ xs. texts (answers xs (replies going.own))) (sym all_done)), tt);
+            ((rw all_done (omega (arith, replies_fit going.done going.own was.calls_are, length-map going.own (λ (e : Entry). e.reply))), was.out_is ∙ ap (λ xs. texts (answers xs (replies going.own))) (sym all_done), rw all_done going.quiet), tt);
+        pieces = All-append IsShort was.added (In piece ∷ []) was.pieces (few, tt);
       };
       quiet = going.quiet;
     }
+
+pub has_read_added : {start v : World} {first h : Standing} {s : Source} {taken : ℕ} (w : World) (t : Source) (piece : List ℕ)
+    (going : Going start v first h s taken) (none : ahead s false [] ≡ []) (going_on : s.lines.ended ≡ false)
+    (tape : Adds v.tape w.tape (In piece ∷ [])) (rest : Takes v.rest w.rest piece) (reads : v.failed_reads ≤ w.failed_reads) (writes : w.failed_writes ≡ v.failed_writes)
+    (fed : (ended : Bool) (more : List ℕ) → ahead t ended more ≡ ahead s ended (piece ++ more)) (few : length piece ≤ 4096)
+    → (has_read w t piece going none going_on tape rest reads writes fed few).so_far.added ≡ going.so_far.added ++ In piece ∷ []
+unfolding has_read
+has_read_added w t piece going none going_on tape rest reads writes fed few = refl
 
 -- a read gave nothing
 pub has_ended : {start v : World} {first h : Standing} {s : Source} {taken : ℕ} (w : World) (t : Source)
@@ -231,6 +251,7 @@ has_ended {start = start} {v = v} w t going going_on tape rest reads writes same
         items_are = λ e more comes. was.items_are e more (λ x. (let no = sym going_on ∙ x in cc)) ∙ ap (λ xs. going.done ++ xs) (sym (same e more));
         calls_are = was.calls_are;
         prompt = was.prompt;
+        pieces = was.pieces;
       };
       quiet = going.quiet;
     }
@@ -259,13 +280,14 @@ same_goes t going same ended =
         items_are = λ e more comes. was.items_are e more (λ x. comes (ended ∙ x)) ∙ ap (λ xs. going.done ++ xs) (sym (same.each e more (λ x. comes (ended ∙ x))));
         calls_are = was.calls_are;
         prompt = was.prompt;
+        pieces = was.pieces;
       };
       quiet = going.quiet;
     }
 
 -- nothing was fed yet
 abbrev pub opening : Source
-opening = record { lines = record { left = []; ended = false; long = false; most = 1048576 }; line = 1; load = None }
+opening = record { lines = record { left = []; ended = false; long = false; most = most_line }; line = 1; joined = alone 1; load = None }
 
 pub opening_ahead : (ended : Bool) (more : List ℕ) → items ended more ≡ ahead opening ended more
 unfolding ahead
@@ -277,8 +299,8 @@ opening_none = refl
 
 -- a piece that could not be fed is ahead of such a reader
 abbrev pub with_piece : Source → List ℕ → Source
-with_piece s piece = record { lines = record s.lines { left = s.lines.left ++ piece }; line = s.line; load = s.load }
+with_piece s piece = record s { lines = record s.lines { left = s.lines.left ++ piece } }
 
 pub with_piece_ahead : (s : Source) (piece : List ℕ) (ended : Bool) (more : List ℕ) → ahead (with_piece s piece) ended more ≡ ahead s ended (piece ++ more)
 unfolding ahead
-with_piece_ahead s piece ended more = ap (λ xs. goes_on s.load s.line (λ j p. items_from ended j p xs)) (append_assoc s.lines.left piece more)
+with_piece_ahead s piece ended more = ap (λ xs. goes_on s.load s.joined s.line (λ j p. items_from ended j p xs)) (append_assoc s.lines.left piece more)

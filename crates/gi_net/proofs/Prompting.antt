@@ -1,6 +1,6 @@
 -- Promptness of a tape that goes on.
 use Rattle.std.proofs.Common.{◌≡◌, ℕ, ◌≤◌, List, [], ◌∷◌, ◌++◌, length, map, false, refl, ap, sym, ◌∙◌, append_assoc, arith, length-append, subst}
-use Rattle.std.specs.List.{flat_map}
+use Rattle.std.specs.List.{AllByRecursion, flat_map}
 use Rattle.std.proofs.lemmas.List.{append-nil, map-append, length-map}
 use Rattle.gi_outside.specs.Link.{ins, outs}
 use Rattle.gi_outside.specs.declared.link.Piece.{Piece}
@@ -8,8 +8,8 @@ use Rattle.gi_outside.specs.declared.link.Piece.TheVariants.{In, Out}
 use Rattle.gi_model.specs.History.{Entry}
 use Rattle.gi_net.specs.Entries.{replies}
 use Rattle.gi_wire.specs.Items.{items}
-use Rattle.gi_net.specs.Answers.{answers, calls, texts}
-use Rattle.gi_net.specs.Served.{PromptFrom}
+use Rattle.gi_net.specs.Answers.{Answer, answers, calls, texts}
+use Rattle.gi_net.specs.Served.{IsQuiet, IsShort, PromptFrom}
 use Rattle.gi_net.proofs.Answering.{answers_kept}
 
 -- with more entries
@@ -20,7 +20,7 @@ prompt_kept own more i o (In b ∷ tape) h =
     let few : length (calls (items false i)) ≤ length (replies own) = omega (arith, h.0.0, length-map own (λ (e : Entry). e.reply)) in
     let same : answers (items false i) (replies (own ++ more)) ≡ answers (items false i) (replies own) =
     ap (answers (items false i)) (map-append (λ (e : Entry). e.reply) own more) ∙ answers_kept (items false i) (replies own) (replies more) few in
-    ((enough, h.0.1 ∙ ap texts (sym same)), prompt_kept own more (i ++ b) o tape h.1)
+    ((enough, h.0.1 ∙ ap texts (sym same), subst (λ (xs : List Answer). AllByRecursion IsQuiet xs) (sym same) h.0.2), prompt_kept own more (i ++ b) o tape h.1)
 prompt_kept own more i o (Out b ∷ tape) h = prompt_kept own more i (o ++ b) tape h
 
 -- with one tape behind another
@@ -44,3 +44,7 @@ pub ins_of_outs : (ps : List (List ℕ)) → ins (map Out ps) ≡ []
 unfolding ins
 ins_of_outs [] = refl
 ins_of_outs (p ∷ ps) = ins_of_outs ps
+
+pub short_outs : (ps : List (List ℕ)) → AllByRecursion IsShort (map Out ps)
+short_outs [] = tt
+short_outs (p ∷ ps) = (tt, short_outs ps)

@@ -11,7 +11,7 @@ use Rattle.gi_wire.specs.Source.{Comes, Source, ahead}
 use Rattle.gi_wire.specs.declared.reader.Item.{Item}
 use Rattle.gi_net.specs.Answers.{answers, calls, texts}
 use Rattle.gi_net.specs.Entries.{WorksForWaits, all_own_of, own_of, replies}
-use Rattle.gi_net.specs.Served.{IsPrompt, IsQuiet}
+use Rattle.gi_net.specs.Served.{IsPrompt, IsQuiet, IsShort}
 use Rattle.gi_net.specs.Standing.{Standing}
 
 -- A session so far: what was added to tape and history, the items that were answered, what is ahead of the reader, and
@@ -33,6 +33,7 @@ pub record SoFar (last : Type 0) (start now : World) (first here : Standing) (so
   pub items_are : (ended : Bool) (more : List ℕ) → Comes source ended more → items ended (ins added ++ more) ≡ done ++ ahead source ended more
   pub calls_are : map (λ e. e.call) own ≡ calls done
   pub prompt : IsPrompt own added
+  pub pieces : AllByRecursion IsShort added
 
 -- all answers so far were written, and the session goes on after each of them
 pub record Going (start now : World) (first here : Standing) (source : Source) (taken : ℕ) : Type 0 where

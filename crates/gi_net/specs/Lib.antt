@@ -4,5 +4,6 @@ pub mod Calls
 pub mod Answers
 pub mod Served
 pub mod Session
+pub mod Over
 pub mod Going
 pub mod Told

@@ -15,7 +15,7 @@ use Rattle.gi_net.specs.declared.how.How.{How}
 use Rattle.gi_net.specs.declared.how.How.TheVariants as how
 use Rattle.gi_net.specs.Answers.{Answer, answers, texts}
 use Rattle.gi_net.specs.Entries.{WorksForWaits, all_own_of, own_of, replies}
-use Rattle.gi_net.specs.Served.{EndsByBye, IsPrompt, Served}
+use Rattle.gi_net.specs.Served.{EndsByBye, IsPrompt, IsShort, Served}
 use Rattle.gi_net.specs.Standing.{Standing}
 
 -- a fault has a cause
@@ -41,8 +41,9 @@ pub record Session (old new : World) (before after : Standing) (by : How) : Type
   pub history : after.history ≡ before.history ++ entries
   -- each own entry takes a call
   pub left : before.left ≡ after.left + length (all_own_of before.number entries)
-  pub served : Served (ins added) new.ended (own_of before.number entries) after.left (outs added) by
+  pub served : Served (ins added) new.ended (own_of before.number entries) (after.left ≡ 0) (outs added) by
   pub prompt : IsPrompt (own_of before.number entries) added
+  pub pieces : AllByRecursion IsShort added
   -- own work comes from waits alone; at the end it is that of a wait that wasn't answered
   pub works : WorksForWaits (IsWaitFirst served.rest) (all_own_of before.number entries)
   pub cause : HasCause by old new

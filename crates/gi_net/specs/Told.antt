@@ -78,12 +78,13 @@ pub record Unanswered (item : Item) (h k : Standing) : Type 0 where
   pub asked_is : item.asked ≡ asked.Call what
   pub breaks : BreaksOff what h k
 
-abbrev pub AnswersItem : Option How → Item → Standing → Standing → World → World → Type 0
-AnswersItem None item h k v w = Told None item h k v w
-AnswersItem (Some how.WriteFault) item h k v w = ToldCut item h k v w ⊎ (Unanswered item h k × WroteCut v w (text 0 reply.NoMemory))
-AnswersItem (Some how.TooMuch) item h k v w = Unanswered item h k × (k.left ≡ 0) × (w ≡ v)
-AnswersItem (Some how.NoMemory) item h k v w = Told (Some how.NoMemory) item h k v w ⊎ (Unanswered item h k × Wrote v w (text 0 reply.NoMemory))
-AnswersItem (Some by) item h k v w = Told (Some by) item h k v w
+-- what answering an item does; a call has no entry where its caller lacked memory, or had no call left
+abbrev pub AnswersItem : Option How → Item → Standing → Standing → Type 0 → World → World → Type 0
+AnswersItem None item h k starved v w = Told None item h k v w
+AnswersItem (Some how.WriteFault) item h k starved v w = ToldCut item h k v w ⊎ (Unanswered item h k × starved × WroteCut v w (text 0 reply.NoMemory))
+AnswersItem (Some how.TooMuch) item h k starved v w = Unanswered item h k × (k.left ≡ 0) × (w ≡ v)
+AnswersItem (Some how.NoMemory) item h k starved v w = Told (Some how.NoMemory) item h k v w ⊎ (Unanswered item h k × starved × Wrote v w (text 0 reply.NoMemory))
+AnswersItem (Some by) item h k starved v w = Told (Some by) item h k v w
 
 -- `nomem` was written, or a front of it
 abbrev pub TellsNoMemory : How → World → World → Type 0

@@ -1,11 +1,12 @@
 // One session.
 ghost use Rattle.std.specs.Prelude.{◌≡◌, ◌+◌, ◌^◌, ◌<◌, ◌≤◌, ℕ, [], Some, true, false, MatchOption, IfNone};
+ghost use Rattle.gi_outside.specs.Link.{Rose};
 ghost use Rattle.gi_outside.specs.World.{World};
 ghost use Rattle.gi_wire.specs.Gives.{MayBeAsked};
 ghost use Rattle.gi_wire.specs.Source.{ahead, last_line};
 ghost use Rattle.gi_wire.specs.Text.{is_answer};
 ghost use Rattle.gi_net.specs.Going.{Going};
-ghost use Rattle.gi_net.specs.Session.{Session};
+ghost use Rattle.gi_net.specs.Over.{Over};
 ghost use Rattle.gi_net.specs.Standing.{Standing};
 ghost use Rattle.gi_net.specs.Told.{AnswersItem, Closes, Tells, TellsNoMemory};
 ghost use Rattle.gi_model.specs.Fits.{fits};
@@ -13,8 +14,8 @@ ghost use Rattle.gi_wire.specs.declared.reader.Asked.TheVariants as asked;
 
 use crate::{Answered, Caller, How};
 use gi_model::{Call, Refusal, Reply};
-use gi_outside::{Got, Link};
-use gi_wire::{Asked, Given, Item, Reader, Sent, write_reply};
+use gi_outside::{Got, Link, Sent};
+use gi_wire::{Asked, Given, Item, Reader, write_reply};
 use std::alloc::Global;
 
 // The most bytes that a session takes, but for its last read.
@@ -23,10 +24,12 @@ const MOST_BYTES: u64 = 1 << 62;
 // The most bytes that one read asks for.
 const PIECE: usize = 4096;
 
-/// Serves a link: each line of its input, a load with the bytes behind its line, is a call by `caller` or refused, and its
-/// answer is written. It reads at most 4,096 bytes at a time, and answers every whole line and load before the next read.
+/// Serves a link: each item of its input, which is a line with all that is joined to it or a load with the bytes behind its
+/// line, is a call by `caller` or refused, and its answer is written. It reads at most 4,096 bytes at a time, answers every
+/// whole item before the next read, and reads nothing once the session is over. It asks for memory only for the bytes that it
+/// reads, for the lists of guards and literals, the joined lines and the bytes of loads, and for the caller's entries.
 pub fn serve_one<C: Caller, L: Link>(alloc: Global, caller: &mut C, link: &mut L) -> How
-    ensures { Session (L.state link.old) (L.state link.new) (C.standing caller.old) (C.standing caller.new) result }
+    ensures { Over (L.state link.old) (L.state link.new) (C.standing caller.old) (C.standing caller.new) (Rose (C.starved caller.old) (C.starved caller.new)) result }
 {
     let mut reader = Reader::new(alloc);
     let mut taken = 0u64;
@@ -52,8 +55,8 @@ fn read_more<L: Link>(link: &mut L, reader: &mut Reader, taken: &mut u64) -> Opt
     ensures most { IfNone result (taken.new ≤ taken.old + 4096) }
     ensures count { IfNone result (last_line reader.new + taken.old ≤ last_line reader.old + taken.new) }
     ensures grows { IfNone result (reader.new.lines.ended ≡ false → taken.old < taken.new) }
-    ensures session { (start : World) (first here : Standing) → Going start (L.state link.old) first here reader.old taken.old
-        → MatchOption result (Going start (L.state link.new) first here reader.new taken.new) (λ by. Session start (L.state link.new) first here by) }
+    ensures session { (start : World) (first here : Standing) (before now : ℕ) → Going start (L.state link.old) first here reader.old taken.old
+        → MatchOption result (Going start (L.state link.new) first here reader.new taken.new) (λ by. Over start (L.state link.new) first here (Rose before now) by) }
 {
     let mut buffer = [0u8; PIECE];
     match link.read(&mut buffer) {
@@ -82,9 +85,11 @@ fn answer_items<C: Caller, L: Link>(
     ensures none { IfNone result ((ahead reader.new false [] ≡ []) × (reader.new.lines.ended ≡ false)) }
     ensures ended { IfNone result (((L.state link.new).ended ≡ (L.state link.old).ended) × (reader.new.lines.ended ≡ reader.old.lines.ended)) }
     ensures count { IfNone result (last_line reader.new ≤ last_line reader.old) }
-    ensures session { (start : World) (first : Standing) (taken : ℕ) → (L.state link.old).ended ≡ reader.old.lines.ended
+    ensures starved { C.starved caller.old ≤ C.starved caller.new }
+    ensures session { (start : World) (first : Standing) (before taken : ℕ) → (L.state link.old).ended ≡ reader.old.lines.ended → before ≤ C.starved caller.old
         → Going start (L.state link.old) first (C.standing caller.old) reader.old taken
-        → MatchOption result (Going start (L.state link.new) first (C.standing caller.new) reader.new taken) (λ by. Session start (L.state link.new) first (C.standing caller.new) by) }
+        → MatchOption result (Going start (L.state link.new) first (C.standing caller.new) reader.new taken)
+        (λ by. Over start (L.state link.new) first (C.standing caller.new) (Rose before (C.starved caller.new)) by) }
 {
     'items: loop {
         match reader.next_item() {
@@ -102,7 +107,8 @@ fn answer_items<C: Caller, L: Link>(
 // Answers one item.
 fn answer<C: Caller, L: Link>(caller: &mut C, link: &mut L, item: Item) -> Option<How>
     requires { MayBeAsked item.asked }
-    ensures { AnswersItem result item (C.standing caller.old) (C.standing caller.new) (L.state link.old) (L.state link.new) }
+    ensures item { AnswersItem result item (C.standing caller.old) (C.standing caller.new) (Rose (C.starved caller.old) (C.starved caller.new)) (L.state link.old) (L.state link.new) }
+    ensures starved { C.starved caller.old ≤ C.starved caller.new }
 {
     let Item { line, asked } = item;
     match asked {
@@ -120,7 +126,9 @@ fn answer_call<C: Caller, L: Link>(
     call: Call,
 ) -> Option<How>
     requires { fits call ≡ true }
-    ensures { AnswersItem result (record { line = line; asked = asked.Call call }) (C.standing caller.old) (C.standing caller.new) (L.state link.old) (L.state link.new) }
+    ensures item { AnswersItem result (record { line = line; asked = asked.Call call }) (C.standing caller.old) (C.standing caller.new)
+        (Rose (C.starved caller.old) (C.starved caller.new)) (L.state link.old) (L.state link.new) }
+    ensures starved { C.starved caller.old ≤ C.starved caller.new }
 {
     match caller.call(call) {
         Answered::Entry => tell(link, line, caller.reply()),

@@ -5,8 +5,7 @@ use super::*;
 use gi_model::{Call, Refusal, Reply};
 use gi_outside::MemoryLink;
 use gi_text::Bytes;
-use std::alloc::Global;
-use std::test::Fail;
+use std::alloc::{AllocError, Global};
 
 #[derive(Drop)]
 struct Note {
@@ -20,6 +19,7 @@ struct Clerk {
     notes: Vec<Note>,
     over: bool,
     left: u64,
+    starved: u64,
 }
 
 fn reply_to(call: &Call, over: bool) -> Reply
@@ -50,6 +50,8 @@ impl Caller for Clerk {
 
     ghost answer = { λ c. option_map (λ n. n.reply) (slice_get c.notes.items (length c.notes.items - 1)) };
 
+    ghost starved = { λ c. c.starved };
+
     fn call(&mut self, call: Call) -> Answered {
         if self.left == 0 {
             return Answered::Spent;
@@ -59,6 +61,7 @@ impl Caller for Clerk {
             self.left -= 1;
             return Answered::Entry;
         }
+        self.starved = self.starved.saturating_add(1);
         Answered::NoMemory
     }
 
@@ -70,108 +73,104 @@ impl Caller for Clerk {
     }
 }
 
-// A link that gives these bytes, the first three pieces of sizes 2, 3 and 1. The reads and the writes of these numbers fail.
+// What a clerk serves: whether its machine is over, its calls left, the input, the numbers of the read and the write that
+// fail, or 0; how it ends, and what it answers.
+type Row = (bool, u64, &'static str, u64, u64, How, &'static str);
+
+const ROWS: [Row; 10] = [
+    (
+        false,
+        100,
+        "vars 3\nadd 1 x 0\nadd 1 0\nbye\nvars 4\n",
+        0,
+        0,
+        How::Bye,
+        "vars 3\nrefused 2 1\nok\nbye\n",
+    ),
+    (
+        false,
+        9,
+        "vars 1 +\nadd 1 +\nx 0\npoll\nadd 1 +",
+        0,
+        0,
+        How::Eof,
+        "refused 1 1\nrefused 2 1\nok\nrefused 5 1\n",
+    ),
+    (false, 9, "add 1 +\n2 0\nbye\n", 0, 0, How::Bye, "ok\nbye\n"),
+    (false, 1, "vars 5", 0, 0, How::Eof, "vars 5\n"),
+    (
+        false,
+        9,
+        "load cnf 100\np cnf\n",
+        0,
+        0,
+        How::Eof,
+        "refused 1 1\n",
+    ),
+    (
+        false,
+        9,
+        "load cnf 4\nbye\nbye\n",
+        0,
+        0,
+        How::Bye,
+        "ok\nbye\n",
+    ),
+    (
+        false,
+        9,
+        "vars 1\nvars 2\nvars 3\n",
+        0,
+        3,
+        How::WriteFault,
+        "vars 1\nvars 2\n",
+    ),
+    (false, 9, "vars 1\n", 1, 0, How::ReadFault, ""),
+    (false, 1, "vars 1\nvars 1\n", 0, 0, How::TooMuch, "vars 1\n"),
+    (
+        true,
+        9,
+        "vars 0\nvars 0\n",
+        0,
+        0,
+        How::Dead,
+        "refused 1 3\n",
+    ),
+];
+
+// A link that gives these bytes, the first three pieces of sizes 2, 3 and 1. The read and the write of these numbers fail.
 fn link_of(
     alloc: Global,
     input: &[u8],
-    bad_reads: &[u64],
-    bad_writes: &[u64],
-) -> Result<MemoryLink, Fail> {
+    bad_read: u64,
+    bad_write: u64,
+) -> Result<MemoryLink, AllocError> {
     let input = Bytes::of(alloc, input)?;
     let cuts = vec![in alloc; 2, 3, 1]?;
-    let bad_reads = bad_reads.to_vec(alloc)?;
-    let bad_writes = bad_writes.to_vec(alloc)?;
+    let bad_reads = vec![in alloc; bad_read]?;
+    let bad_writes = vec![in alloc; bad_write]?;
     Ok(MemoryLink::new(alloc, input, cuts, bad_reads, bad_writes))
 }
 
-fn new_clerk(alloc: Global, over: bool, left: u64) -> Clerk {
-    Clerk {
+fn serves(alloc: Global, row: Row) -> bool {
+    let (over, left, input, bad_read, bad_write, how, output) = row;
+    let mut clerk = Clerk {
         notes: Vec::new(alloc),
         over,
         left,
+        starved: 0,
+    };
+    match link_of(alloc, input.as_bytes(), bad_read, bad_write) {
+        Ok(mut link) => {
+            serve_one(alloc, &mut clerk, &mut link) == how && link.written() == output.as_bytes()
+        }
+        Err(_) => false,
     }
 }
 
 #[test]
-fn answers_in_any_cut(rt: HostRuntime) -> Result<(), Fail> {
-    let alloc = rt.alloc();
-    let mut link = link_of(
-        alloc,
-        b"vars 3\nadd 1 x 0\nadd 1 0\nbye\nvars 4\n",
-        &[],
-        &[],
-    )?;
-    let how = serve_one(alloc, &mut new_clerk(alloc, false, 100), &mut link);
-    assert_eq!(rt; how, How::Bye);
-    assert_eq!(rt;
-        link.written(),
-        b"vars 3\nrefused 2 1\nok\nbye\n".as_slice()
-    );
-    Ok(())
-}
-
-#[test]
-fn the_last_line_needs_no_end(rt: HostRuntime) -> Result<(), Fail> {
-    let alloc = rt.alloc();
-    let mut link = link_of(alloc, b"vars 5", &[], &[])?;
-    let how = serve_one(alloc, &mut new_clerk(alloc, false, 1), &mut link);
-    assert_eq!(rt; how, How::Eof);
-    assert_eq!(rt; link.written(), b"vars 5\n".as_slice());
-    Ok(())
-}
-
-#[test]
-fn loads_come_with_their_bytes(rt: HostRuntime) -> Result<(), Fail> {
-    let alloc = rt.alloc();
-    let rows = [
-        ("load cnf 100\np cnf\n", How::Eof, "refused 1 1\n"),
-        ("load cnf 4\nbye\nbye\n", How::Bye, "ok\nbye\n"),
-    ];
-    for (input, ending, output) in rows {
-        let mut link = link_of(alloc, input.as_bytes(), &[], &[])?;
-        let how = serve_one(alloc, &mut new_clerk(alloc, false, 9), &mut link);
-        assert_eq!(rt; how, ending);
-        assert_eq!(rt; link.written(), output.as_bytes());
+fn sessions_are_served(rt: HostRuntime) {
+    for row in ROWS {
+        assert!(rt; serves(rt.alloc(), row));
     }
-    Ok(())
-}
-
-#[test]
-fn a_third_write_fails(rt: HostRuntime) -> Result<(), Fail> {
-    let alloc = rt.alloc();
-    let mut link = link_of(alloc, b"vars 1\nvars 2\nvars 3\n", &[], &[3])?;
-    let how = serve_one(alloc, &mut new_clerk(alloc, false, 9), &mut link);
-    assert_eq!(rt; how, How::WriteFault);
-    assert_eq!(rt; link.written(), b"vars 1\nvars 2\n".as_slice());
-    Ok(())
-}
-
-#[test]
-fn the_first_read_fails(rt: HostRuntime) -> Result<(), Fail> {
-    let alloc = rt.alloc();
-    let mut link = link_of(alloc, b"vars 1\n", &[1], &[])?;
-    let how = serve_one(alloc, &mut new_clerk(alloc, false, 9), &mut link);
-    assert_eq!(rt; how, How::ReadFault);
-    assert_eq!(rt; link.written(), b"".as_slice());
-    Ok(())
-}
-
-#[test]
-fn no_call_is_left(rt: HostRuntime) -> Result<(), Fail> {
-    let alloc = rt.alloc();
-    let mut link = link_of(alloc, b"vars 1\nvars 1\n", &[], &[])?;
-    let how = serve_one(alloc, &mut new_clerk(alloc, false, 1), &mut link);
-    assert_eq!(rt; how, How::TooMuch);
-    assert_eq!(rt; link.written(), b"vars 1\n".as_slice());
-    Ok(())
-}
-
-#[test]
-fn the_machine_is_over(rt: HostRuntime) -> Result<(), Fail> {
-    let alloc = rt.alloc();
-    let mut link = link_of(alloc, b"vars 0\nvars 0\n", &[], &[])?;
-    let how = serve_one(alloc, &mut new_clerk(alloc, true, 9), &mut link);
-    assert_eq!(rt; how, How::Dead);
-    assert_eq!(rt; link.written(), b"refused 1 3\n".as_slice());
-    Ok(())
 }

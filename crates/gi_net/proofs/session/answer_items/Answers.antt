@@ -1,31 +1,40 @@
-use Rattle.std.proofs.Common.{sym, ◌∙◌, arith}
+use Rattle.std.proofs.Common.{sym, ◌∙◌, arith, inl, inr}
+use Rattle.gi_outside.proofs.Writing.{rose_since}
+use Rattle.gi_net.proofs.Telling.{starved_as}
 use Rattle.gi_net.proofs.Ending.{ends_eof, item_ends, item_goes, no_memory}
 use Rattle.gi_net.proofs.Moving.{same_goes}
 use Rattle.gi_net.proofs.session.answer_items.Goals as goal
 
 pub returns-in-Some-clause-session : goal.returns-in-Some-clause-session
-returns-in-Some-clause-session g c = λ start first taken same going.
-    item_ends (g.L.Link.state c.answer.new.link) (g.C.Caller.standing c.answer.new.caller) c.next_item.new.self c.in-Item.item c.in-Some.how
-    (c.items.invariant.going start first taken going) (c.items.invariant.link_end ∙ same ∙ sym c.items.invariant.reader_end) c.in-Item.ensures c.in-Some.ensures
+returns-in-Some-clause-session g c = λ start first before taken same count going.
+    let v = g.L.Link.state c.items.link in
+    let w = g.L.Link.state c.answer.new.link in
+    let h = g.C.Caller.standing c.items.caller in
+    let k = g.C.Caller.standing c.answer.new.caller in
+    let rose = rose_since before (g.C.Caller.starved c.items.caller) (g.C.Caller.starved c.answer.new.caller) (omega (arith, count, c.items.invariant.starved)) in
+    item_ends w k c.next_item.new.self c.in-Item.item c.in-Some.how
+    (c.items.invariant.going start first taken going) (c.items.invariant.link_end ∙ same ∙ sym c.items.invariant.reader_end) c.in-Item.ensures (starved_as c.in-Some.how c.in-Item.item h k v w rose c.in-Some.ensures.item)
 
 pub items-preserved : goal.items-preserved
 items-preserved g c = record {
   count = omega (arith, c.items.invariant.count, c.in-Item.ensures.count);
-  link_end = c.in-None.ensures.wrote.ended ∙ c.items.invariant.link_end;
+  starved = omega (arith, c.items.invariant.starved, c.in-None.ensures.starved);
+  link_end = c.in-None.ensures.item.wrote.ended ∙ c.items.invariant.link_end;
   reader_end = c.in-Item.ensures.ended ∙ c.items.invariant.reader_end;
   going = λ start first taken going.
-      item_goes (g.L.Link.state c.answer.new.link) (g.C.Caller.standing c.answer.new.caller) c.next_item.new.self c.in-Item.item (c.items.invariant.going start first taken going) c.in-Item.ensures c.in-None.ensures;
+      item_goes (g.L.Link.state c.answer.new.link) (g.C.Caller.standing c.answer.new.caller) c.next_item.new.self c.in-Item.item (c.items.invariant.going start first taken going) c.in-Item.ensures c.in-None.ensures.item;
 }
 
 pub returns-in-More-clause-session : goal.returns-in-More-clause-session
-returns-in-More-clause-session g c = λ start first taken same going.
+returns-in-More-clause-session g c = λ start first before taken same count going.
     same_goes c.next_item.new.self (c.items.invariant.going start first taken going) c.in-More.ensures.same (c.in-More.ensures.ended ∙ sym c.in-More.ensures.not_ended)
 
 pub returns-in-Done-clause-session : goal.returns-in-Done-clause-session
-returns-in-Done-clause-session g c = λ start first taken same going.
+returns-in-Done-clause-session g c = λ start first before taken same count going.
     ends_eof (c.items.invariant.going start first taken going) (c.items.invariant.link_end ∙ same ∙ sym c.items.invariant.reader_end) c.in-Done.ensures.0 c.in-Done.ensures.1
 
 pub returns-in-NoMemory-clause-session : goal.returns-in-NoMemory-clause-session
-returns-in-NoMemory-clause-session g c = λ start first taken same going.
+returns-in-NoMemory-clause-session g c = λ start first before taken same count going.
     let so_far = c.items.invariant.going start first taken going in
-    no_memory (g.L.Link.state c.tell_no_memory.new.link) c.tell_no_memory.result so_far.so_far so_far.quiet (c.items.invariant.link_end ∙ same ∙ sym c.items.invariant.reader_end) (λ x. absurd x) c.tell_no_memory.ensures
+    let wants = c.in-NoMemory.ensures.1 in
+    no_memory (g.L.Link.state c.tell_no_memory.new.link) c.tell_no_memory.result so_far.so_far so_far.quiet (c.items.invariant.link_end ∙ same ∙ sym c.items.invariant.reader_end) (λ x. absurd x) (inr (inl wants)) c.tell_no_memory.ensures

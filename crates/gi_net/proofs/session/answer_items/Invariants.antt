@@ -8,6 +8,7 @@ use Rattle.gi_net.proofs.session.answer_items.Given as goal
 abbrev pub invariant-items : goal.invariant-items
 invariant-items g l = record {
   count : last_line l.reader ≤ last_line l.fn.reader;
+  starved : g.C.Caller.starved l.fn.caller ≤ g.C.Caller.starved l.caller;
   link_end : (g.L.Link.state l.link).ended ≡ (g.L.Link.state l.fn.link).ended;
   reader_end : l.reader.lines.ended ≡ l.fn.reader.lines.ended;
   going : (start : World) (first : Standing) (taken : ℕ) → Going start (g.L.Link.state l.fn.link) first (g.C.Caller.standing l.fn.caller) l.fn.reader taken

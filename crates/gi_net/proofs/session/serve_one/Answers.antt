@@ -9,29 +9,31 @@ session-init g c = rw c.new-reader.ensures (record {
   open_is = refl;
   link_end = λ h. absurd (omega arith);
   count = omega arith;
+  starved = omega arith;
   most = omega arith;
   going = begun (g.L.Link.state c.args.link.now) (g.C.Caller.standing c.args.caller.now) opening opening_ahead;
 })
 
 pub returns-in-Some : goal.returns-in-Some
-returns-in-Some g c = c.in-Some.ensures.session (g.L.Link.state c.args.link.now) (g.C.Caller.standing c.args.caller.now) (g.C.Caller.standing c.session.caller) c.session.invariant.going
+returns-in-Some g c = c.in-Some.ensures.session (g.L.Link.state c.args.link.now) (g.C.Caller.standing c.args.caller.now) (g.C.Caller.standing c.session.caller) (g.C.Caller.starved c.args.caller.now) (g.C.Caller.starved c.session.caller) c.session.invariant.going
 
 pub returns-in-Some-answer_items : goal.returns-in-Some-answer_items
 returns-in-Some-answer_items g c =
-    let read = c.in-None.ensures.session (g.L.Link.state c.args.link.now) (g.C.Caller.standing c.args.caller.now) (g.C.Caller.standing c.session.caller) c.session.invariant.going in
-    c.in-Some-answer_items.ensures.session (g.L.Link.state c.args.link.now) (g.C.Caller.standing c.args.caller.now) c.read_more.new.taken c.in-None.ensures.ended read
+    let read = c.in-None.ensures.session (g.L.Link.state c.args.link.now) (g.C.Caller.standing c.args.caller.now) (g.C.Caller.standing c.session.caller) (g.C.Caller.starved c.args.caller.now) (g.C.Caller.starved c.session.caller) c.session.invariant.going in
+    c.in-Some-answer_items.ensures.session (g.L.Link.state c.args.link.now) (g.C.Caller.standing c.args.caller.now) (g.C.Caller.starved c.args.caller.now) c.read_more.new.taken c.in-None.ensures.ended c.session.invariant.starved read
 
 pub session-preserved : goal.session-preserved
 session-preserved g c =
-    let read = c.in-None.ensures.session (g.L.Link.state c.args.link.now) (g.C.Caller.standing c.args.caller.now) (g.C.Caller.standing c.session.caller) c.session.invariant.going in
+    let read = c.in-None.ensures.session (g.L.Link.state c.args.link.now) (g.C.Caller.standing c.args.caller.now) (g.C.Caller.standing c.session.caller) (g.C.Caller.starved c.args.caller.now) (g.C.Caller.starved c.session.caller) c.session.invariant.going in
     let still_open = c.in-None-answer_items.ensures.none.1 in
     record {
       whole = c.in-None-answer_items.ensures.none.0;
       open_is = still_open;
       link_end = λ h. c.in-None-answer_items.ensures.ended.0 ∙ c.in-None.ensures.ended ∙ sym c.in-None-answer_items.ensures.ended.1 ∙ still_open;
       count = omega (arith, c.in-None-answer_items.ensures.count, c.in-None.ensures.count, c.session.invariant.count);
+      starved = omega (arith, c.session.invariant.starved, c.in-None-answer_items.ensures.starved);
       most = omega (arith, c.in-None.ensures.most, c.session-test.true);
-      going = c.in-None-answer_items.ensures.session (g.L.Link.state c.args.link.now) (g.C.Caller.standing c.args.caller.now) c.read_more.new.taken c.in-None.ensures.ended read;
+      going = c.in-None-answer_items.ensures.session (g.L.Link.state c.args.link.now) (g.C.Caller.standing c.args.caller.now) (g.C.Caller.starved c.args.caller.now) c.read_more.new.taken c.in-None.ensures.ended c.session.invariant.starved read;
     }
 
 pub returns : goal.returns

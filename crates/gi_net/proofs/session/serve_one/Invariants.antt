@@ -9,6 +9,7 @@ invariant-session g l = record {
   open_is : l.reader.lines.ended ≡ false;
   link_end : 0 < l.taken → (g.L.Link.state l.link).ended ≡ false;
   count : last_line l.reader ≤ l.taken + 1;
+  starved : g.C.Caller.starved l.fn.caller ≤ g.C.Caller.starved l.caller;
   most : l.taken < 2 ^ 62 + 4096;
   going : Going (g.L.Link.state l.fn.link) (g.L.Link.state l.link) (g.C.Caller.standing l.fn.caller) (g.C.Caller.standing l.caller) l.reader l.taken;
 }
