@@ -1,12 +1,11 @@
 -- A search from gates to their operands.
-use Rattle.std.proofs.Common.{◌≡◌, ◌≢◌, ℕ, zero, suc, ◌+◌, ◌-◌, ◌*◌, ◌<◌, ◌≤◌, max, List, [], ◌∷◌, ◌++◌, length, take, get_or, set, Bool, true, false, cond, ◌⊎◌, inl, inr, refl, ap, sym, ◌∙◌, arith, subst, length-append}
-use Rattle.std.specs.List.{sum_by}
+use Rattle.std.proofs.Common.{◌≡◌, ◌≢◌, ℕ, zero, suc, ◌+◌, ◌-◌, ◌<◌, ◌≤◌, max, List, [], ◌∷◌, ◌++◌, length, take, get_or, set, Bool, true, false, cond, ◌⊎◌, inl, inr, refl, ap, sym, ◌∙◌, arith, subst, length-append}
 use Rattle.std.proofs.Math.ListN.{length-set}
 use Rattle.std.proofs.lemmas.List.{get_or-set_same, get_or-set_other, get_or_append_left, get_or-append_right, get_or-take, length-take-le}
 use Rattle.std.proofs.lemmas.List.Sums.{sum_by-set}
 use Rattle.std.proofs.lemmas.Bool.Decides.{eqb_tells}
 use Rattle.gi_levels.specs.declared.levels.Node.{Node}
-use Rattle.gi_levels.specs.Levels.{node_at, IsOperand, HasLevels, IsKnown, Exact, unseen, Searching, Rooted, Keeps, IsLast, Advances}
+use Rattle.gi_levels.specs.Levels.{node_at, IsOperand, HasLevels, IsKnown, Exact, unseen, Searching, Rooted, IsLast, Advances}
 
 same_or : (a b : ℕ) → (a ≡ b) ⊎ (a ≢ b)
 same_or a b = elim (eqb_tells a b) [ inl t ↦ inl t.1 | inr f ↦ inr f.1 ]
@@ -30,7 +29,7 @@ cyclic nodes seen lv st fr top p s l o unknown was f =
     let at_p : f.level top ≤ f.level p = subst (λ (i : ℕ). f.level top ≤ f.level i) found.2 at_top in
     omega arith
 
-fewer : (seen : List Bool) (p : ℕ) → p < length seen → get_or seen p false ≡ false → unseen (set seen p true) + 1 ≡ unseen seen
+pub fewer : (seen : List Bool) (p : ℕ) → p < length seen → get_or seen p false ≡ false → unseen (set seen p true) + 1 ≡ unseen seen
 fewer seen p lt was =
     let e = sum_by-set (λ b. cond b 0 1) seen p true false lt in
     let one : cond {A = ℕ} (get_or seen p false) 0 1 ≡ 1 = rw was refl in

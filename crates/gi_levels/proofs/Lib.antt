@@ -1,4 +1,9 @@
+pub mod Beginnings
 pub mod Levelling
 pub mod Visiting
 pub mod Prefixes
 pub mod OneCycle
+pub mod Bounded
+pub mod Sorting
+pub mod Gathered
+pub mod Standing

@@ -1,10 +1,9 @@
 -- Levels of a part.
-use Rattle.std.proofs.Common.{◌≡◌, ℕ, zero, suc, ◌+◌, ◌-◌, ◌<◌, ◌≤◌, List, [], ◌∷◌, length, take, get_or, ◌⊎◌, inl, inr, MatchBool, refl, ap, sym, ◌∙◌, subst, arith}
-use Rattle.std.proofs.lemmas.List.{get_or-take, length-take-le, take_all}
+use Rattle.std.proofs.Common.{◌≡◌, ℕ, ◌<◌, List, [], ◌∷◌, length, take, get_or, ◌⊎◌, inl, inr, MatchBool, sym, subst, arith}
 use Rattle.gi_levels.specs.declared.levels.Node.{Node}
 use Rattle.gi_levels.specs.declared.levels.Levels.{Levels}
 use Rattle.gi_levels.specs.declared.levels.Levels.TheVariants.{Found, Cycle}
-use Rattle.gi_levels.specs.Levels.{node_at, IsOperand, HasLevels, AreLevels, ClosesCycle}
+use Rattle.gi_levels.specs.Levels.{node_at, HasLevels, AreLevels}
 use Rattle.gi_levels.specs.Found.{Answers, is_found}
 
 pub levels_are : (nodes : List Node) (levels : List ℕ) → AreLevels nodes levels → HasLevels nodes

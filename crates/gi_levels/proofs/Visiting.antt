@@ -1,9 +1,9 @@
 -- From one root.
-use Rattle.std.proofs.Common.{◌≡◌, ◌≢◌, ℕ, ◌+◌, ◌-◌, ◌*◌, ◌<◌, ◌≤◌, List, [], ◌∷◌, length, get_or, Bool, ◌⊎◌, inl, inr, arith, ap, zero, suc, refl, sym, ◌∙◌, subst, false, true, replicate, below_more, if◌then◌else◌}
+use Rattle.std.proofs.Common.{◌≡◌, ◌≢◌, ℕ, ◌+◌, ◌<◌, List, [], length, get_or, Bool, inl, inr, arith, ap, zero, suc, refl, sym, ◌∙◌, false, true, replicate, below_more, if◌then◌else◌}
 use Rattle.std.proofs.lemmas.List.{length-replicate}
 use Rattle.std.proofs.lemmas.List.Folds.{sum_by-replicate}
 use Rattle.gi_levels.specs.declared.levels.Node.{Node}
-use Rattle.gi_levels.specs.Levels.{Searching, Rooted, Keeps, Advances, IsLast, Visited, AreLevels, unseen}
+use Rattle.gi_levels.specs.Levels.{Searching, Rooted, Keeps, Advances, Visited, AreLevels, unseen}
 
 pub record Visiting (nodes : List Node) (root : ℕ) (start : List ℕ) (seen : List Bool) (levels stack : List ℕ) (fresh : ℕ) : Type 0 where
   pub sound : Searching nodes seen levels stack fresh
@@ -38,12 +38,12 @@ zeros zero k = refl
 zeros (suc n) zero = refl
 zeros (suc n) (suc k) = zeros n k
 
-falses : (n k : ℕ) → get_or (replicate n false) k false ≡ false
+pub falses : (n k : ℕ) → get_or (replicate n false) k false ≡ false
 falses zero k = refl
 falses (suc n) zero = refl
 falses (suc n) (suc k) = falses n k
 
-all_unseen : (n : ℕ) → unseen (replicate n false) ≡ n
+pub all_unseen : (n : ℕ) → unseen (replicate n false) ≡ n
 all_unseen n = omega (arith, sum_by-replicate (λ b. if b then 0 else 1) n false)
 
 pub none_yet : (nodes : List Node) (seen : List Bool) (levels stack : List ℕ) (fresh : ℕ) → seen ≡ replicate (length nodes) false → levels ≡ replicate (length nodes) 0 → stack ≡ [] → fresh ≡ length nodes → Roots nodes 0 seen levels stack fresh

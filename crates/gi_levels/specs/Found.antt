@@ -1,5 +1,5 @@
 -- What levelling answers.
-use Rattle.std.specs.Prelude.{ℕ, List, Bool, true, false}
+use Rattle.std.specs.Prelude.{List, Bool, true, false}
 use Rattle.gi_levels.specs.declared.levels.Node.{Node}
 use Rattle.gi_levels.specs.declared.levels.Levels.{Levels}
 use Rattle.gi_levels.specs.declared.levels.Levels.TheVariants.{Found, Cycle}

@@ -3,9 +3,11 @@
 
 mod laws;
 mod levels;
+mod order;
 
-pub use laws::cycle_is_one;
+pub use laws::{cycle_is_one, levels_are_told, order_is_whole};
 pub use levels::{Levels, Node, first_cycle, levels_of};
+pub use order::by_level;
 
 #[cfg(test)]
 mod tests;

@@ -1,13 +1,35 @@
-use crate::{Levels, Node, first_cycle, levels_of};
+use crate::{Levels, Node, by_level, first_cycle, levels_of};
 use std::alloc::{AllocError, Global};
 use std::test::Fail;
 
 /// The levels of gates, none where there is a cycle.
-fn found(alloc: Global, nodes: &[Node]) -> Result<Option<Vec<usize>>, AllocError> {
+fn found(alloc: Global, nodes: &[Node]) -> Result<Vec<usize>, AllocError> {
     match levels_of(alloc, nodes)? {
-        Levels::Found(levels) => Ok(Some(levels)),
-        Levels::Cycle => Ok(None),
+        Levels::Found(levels) => Ok(levels),
+        Levels::Cycle => Ok(Vec::new(alloc)),
     }
+}
+
+fn ordered(alloc: Global, nodes: &[Node]) -> Result<Vec<usize>, AllocError> {
+    match by_level(alloc, nodes)? {
+        Some(places) => Ok(places),
+        None => Ok(Vec::new(alloc)),
+    }
+}
+
+/// Whether gates have these levels, this order and this first cycle.
+fn are_told(
+    alloc: Global,
+    nodes: &[Node],
+    levels: &[usize],
+    places: &[usize],
+    cycle: Option<usize>,
+) -> Result<bool, AllocError> {
+    Ok(
+        found(alloc, nodes)?.as_slice() == levels
+            && ordered(alloc, nodes)?.as_slice() == places
+            && first_cycle(alloc, nodes)? == cycle,
+    )
 }
 
 #[test]
@@ -16,10 +38,9 @@ fn gates_before_their_operands(rt: HostRuntime) -> Result<(), Fail> {
         Node { left: 1, right: 9 },
         Node { left: 2, right: 2 },
         Node { left: 9, right: 9 },
+        Node { left: 2, right: 9 },
     ];
-    let levels = found(rt.alloc(), &nodes)?.ok_or("there is no cycle")?;
-    assert_eq!(rt; levels.as_slice(), [3, 2, 1].as_slice());
-    assert_eq!(rt; first_cycle(rt.alloc(), &nodes)?, None);
+    assert!(rt; are_told(rt.alloc(), &nodes, &[3, 2, 1, 2], &[2, 1, 3, 0], None)?);
     Ok(())
 }
 
@@ -31,7 +52,6 @@ fn the_gate_that_closes_a_cycle(rt: HostRuntime) -> Result<(), Fail> {
         Node { left: 0, right: 1 },
         Node { left: 3, right: 3 },
     ];
-    assert!(rt; found(rt.alloc(), &nodes)?.is_none());
-    assert_eq!(rt; first_cycle(rt.alloc(), &nodes)?, Some(2));
+    assert!(rt; are_told(rt.alloc(), &nodes, &[], &[], Some(2))?);
     Ok(())
 }

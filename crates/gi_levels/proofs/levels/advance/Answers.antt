@@ -1,4 +1,4 @@
-use Rattle.std.proofs.Common.{◌≡◌, ℕ, max, ◌+◌, ap, sym, ◌∙◌, refl, subst, ◌<◌, arith, length, get_or, ◌≢◌, set}
+use Rattle.std.proofs.Common.{◌≡◌, ℕ, max, ◌+◌, ap, ◌∙◌, arith, get_or, set}
 use Rattle.gi_levels.specs.Levels.{node_at}
 use Rattle.gi_levels.proofs.Levelling.{settled, advances_to}
 use Rattle.gi_levels.proofs.levels.advance.Goals as goal

@@ -1,5 +1,5 @@
-use Rattle.std.proofs.Common.{sym, refl, arith, true, false}
-use Rattle.gi_levels.proofs.Levelling.{cyclic, pushed, some_fresh, flag_is, advances_to}
+use Rattle.std.proofs.Common.{refl, arith, true, false}
+use Rattle.gi_levels.proofs.Levelling.{cyclic, pushed, flag_is, advances_to}
 use Rattle.gi_levels.proofs.levels.descend.Goals as goal
 
 pub returns-then-index : goal.returns-then-index

@@ -1,6 +1,4 @@
-use Rattle.std.proofs.Common.{ℕ, zero, suc, ◌≡◌, ◌<◌, ◌≤◌, length, take, List, subst, arith, sym}
-use Rattle.gi_levels.specs.declared.levels.Node.{Node}
-use Rattle.gi_levels.specs.Levels.{HasLevels}
+use Rattle.std.proofs.Common.{arith}
 use Rattle.gi_levels.proofs.Prefixes.{none_has, some_nodes}
 use Rattle.gi_levels.proofs.levels.first_cycle.Goals as goal
 

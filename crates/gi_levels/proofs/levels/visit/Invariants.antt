@@ -1,4 +1,4 @@
-use Rattle.std.proofs.Common.{ℕ, ◌+◌, ◌*◌, length}
+use Rattle.std.proofs.Common.{◌+◌, ◌*◌, length}
 use Rattle.gi_levels.proofs.Visiting.{Visiting}
 use Rattle.gi_levels.proofs.levels.visit.Given as goal
 
