@@ -1,5 +1,6 @@
 -- What a file says ends with a value or with a fault, and the gates of the value are those that stand.
-use Rattle.std.proofs.Common.{◌≡◌, ℕ, zero, suc, ◌+◌, List, [], ◌∷◌, Bool, true, false, cond, inl, inr, Option, Some, None, Result, Ok, Err, drop, ap, sym, ◌∙◌, subst}
+use Rattle.std.specs.Prelude.{MatchOption}
+use Rattle.std.proofs.Common.{◌≡◌, ℕ, zero, suc, ◌+◌, refl, List, [], ◌∷◌, Bool, true, false, cond, inl, inr, Option, Some, None, Result, Ok, Err, drop, ap, sym, ◌∙◌, subst}
 use Rattle.std.proofs.lemmas.List.{take-append-drop}
 use Rattle.gi_aiger.specs.declared.aig.Aig.{Aig}
 use Rattle.gi_aiger.specs.declared.aig.AndGate.{AndGate}
@@ -15,9 +16,11 @@ use Rattle.gi_aiger.specs.declared.read.AigRead.TheVariants as reads
 use Rattle.gi_aiger.specs.declared.row.Section.{Section}
 use Rattle.gi_aiger.specs.declared.row.Section.TheVariants as sections
 use Rattle.gi_aiger.specs.declared.taken.Taken.{Taken}
-use Rattle.gi_aiger.specs.Answers.{Answer, Tells}
+use Rattle.gi_levels.specs.Order.{first_cycle}
+use Rattle.gi_aiger.specs.Answers.{Answer, Tells, Reads, answer_by, answer_to}
 use Rattle.gi_aiger.specs.Header.{header_of}
-use Rattle.gi_aiger.specs.Levels.{HasLevels, ClosesCycle}
+use Rattle.gi_aiger.specs.Levels.{HasLevels, ClosesCycle, IsDistinct}
+use Rattle.gi_aiger.specs.Places.{nodes_of}
 use Rattle.gi_aiger.specs.Lines.{lines_of, bare, joined}
 use Rattle.gi_aiger.specs.Taking.{nothing, add_line}
 use Rattle.gi_aiger.specs.Sections.{left_in, sections_of}
@@ -27,6 +30,7 @@ use Rattle.gi_aiger.specs.Files.{Told, stopped, gate_stopped, whole, begins_comm
 use Rattle.gi_aiger.specs.Relation.{IsAig}
 use Rattle.gi_aiger.specs.Saying.{IsSaid}
 use Rattle.gi_aiger.proofs.OneCycle as cycles
+use Rattle.gi_aiger.proofs.Resolving.{found_own}
 use Rattle.gi_aiger.proofs.Accepting.{said_read}
 use Rattle.gi_aiger.proofs.Returning.{read_said}
 
@@ -141,3 +145,16 @@ answer_said (reads.Fault f) bytes tells = λ v is. never v (answer_only (read_fi
   never : (v : Aig) → ◌≡◌ {A = Result Aig AigFault} (Ok v) (Err f) → ⊥
   never v e = cc
 answer_said reads.NoMemory bytes tells = tt
+
+-- the function's answer is one
+answer_found : (told : Told) (found : Option ℕ) → MatchOption found (HasLevels told.gates) (ClosesCycle told.gates) → Answer told (answer_by found told)
+answer_found told None levels = inl (levels, refl)
+answer_found told (Some k) closes = inr (k, closes, refl)
+
+pub answer_is : (told : Told) → IsDistinct told.gates → Answer told (answer_to told)
+answer_is told d = answer_found told (first_cycle (nodes_of told.gates)) (found_own told.gates d)
+
+pub reads_it : (r : AigRead) (told : Told) → IsDistinct told.gates → Tells r told → Reads r (answer_to told)
+reads_it (reads.Aig v) told d tells = answer_only told (answer_to told) (Ok v) (answer_is told d) tells
+reads_it (reads.Fault f) told d tells = answer_only told (answer_to told) (Err f) (answer_is told d) tells
+reads_it reads.NoMemory told d tells = tt

@@ -42,3 +42,4 @@ pub mod Cutting
 pub mod Falling
 pub mod Feeding
 pub mod Settling
+pub mod Showing

@@ -8,7 +8,7 @@ use Rattle.gi_aiger.specs.declared.fault.AigCode.TheVariants.{Cycle, End}
 use Rattle.gi_aiger.specs.declared.fault.AigFault.{AigFault}
 use Rattle.gi_aiger.specs.declared.head.Form.TheVariants.{Ascii, Binary}
 use Rattle.gi_aiger.specs.declared.head.Head.{Head}
-use Rattle.gi_aiger.specs.Answers.{Answer}
+use Rattle.gi_aiger.specs.Answers.{Answer, read_aig}
 use Rattle.gi_aiger.specs.Files.{Told, begin, read_sections, after_header, read_lines, read_file}
 use Rattle.gi_aiger.specs.Deltas.{AreGates}
 use Rattle.gi_aiger.specs.Header.{header_of, is_within}
@@ -19,7 +19,8 @@ use Rattle.gi_aiger.specs.Relation.{IsAig, head_of_aig}
 use Rattle.gi_aiger.specs.Sections.{sections_of}
 use Rattle.gi_aiger.proofs.Accepting.{ascii_read, binary_read}
 use Rattle.gi_aiger.proofs.Cutting.{cut, bare_again, take_front, lines_first, rest_lines, lines_from, Behind, Has, ascii_behind, ascii_has}
-use Rattle.gi_aiger.proofs.Ending.{levels_never, value_said, said_answered, answer_only}
+use Rattle.gi_aiger.proofs.Apart.{gates_apart}
+use Rattle.gi_aiger.proofs.Ending.{levels_never, value_said, said_answered, answer_only, answer_is}
 use Rattle.gi_aiger.proofs.Failing.{lines_same, gates_same, lines_end}
 use Rattle.gi_aiger.proofs.Falling.{binary_levels}
 use Rattle.gi_aiger.proofs.Feeding.{AtGates, binary_behind}
@@ -157,5 +158,22 @@ binary_helpless bytes gates f answer late gate are v more is =
     in_lines h v f tail n (line_feeds gates) (λ told. AreGates told.gates gates) ls is.head (is.body ++ is.behind) refl (lines_are bytes) answer are late (sym lines ∙ is.lines) is.header ok
     (λ m rows line lines now answer are. within_binary (read_sections h (sections_of Binary) 2 (begin h) rows) f gates m (binary_behind gates h more v (sections_of Binary) m 2 (begin h) rows refl small lines now) (binary_levels h rows refl) line (late, gate, are) answer)
 
+-- bytes have the function's answer, and no other
+read_is : (bytes : List ℕ) → Answer (read_file bytes) (read_aig bytes)
+unfolding read_aig
+read_is bytes = answer_is (read_file bytes) (gates_apart bytes)
+
+only_read : (bytes : List ℕ) (r : Result Aig AigFault) → Answer (read_file bytes) r → r ≡ read_aig bytes
+only_read bytes r answer = answer_only (read_file bytes) r (read_aig bytes) answer (read_is bytes)
+
+was_read : (bytes : List ℕ) (r : Result Aig AigFault) → r ≡ read_aig bytes → Answer (read_file bytes) r
+was_read bytes r e = subst (Answer (read_file bytes)) (sym e) (read_is bytes)
+
 pub one_answer : OneAnswer
-one_answer = record { only = λ bytes. answer_only (read_file bytes); said = value_said; answered = said_answered }
+one_answer = record {
+  only = λ bytes. answer_only (read_file bytes);
+  read = λ bytes r. (only_read bytes r, was_read bytes r);
+  value = λ v bytes. (λ is. sym (only_read bytes (Ok v) (said_answered v bytes is)), λ e. value_said v bytes (was_read bytes (Ok v) (sym e)));
+  said = value_said;
+  answered = said_answered;
+}

@@ -11,7 +11,7 @@ use Rattle.gi_aiger.specs.declared.row.Row.{Row}
 use Rattle.gi_aiger.specs.Rows.{uses_of, defined_variables, IsClosed}
 use Rattle.gi_aiger.specs.Marks.{mark_at, missing, marks_of}
 use Rattle.gi_aiger.specs.Levels.{HasLevels, ClosesCycle}
-use Rattle.gi_aiger.specs.Answers.{Answer}
+use Rattle.gi_aiger.specs.Answers.{Answer, read_aig}
 use Rattle.gi_aiger.specs.Lines.{lines_of, bare, text_of}
 use Rattle.gi_aiger.specs.Deltas.{AreGates}
 use Rattle.gi_aiger.specs.Relation.{IsAscii, IsBinary, IsAig}
@@ -60,6 +60,20 @@ LinesHelpless = (bytes : List ℕ) (f : AigFault) → Answer (read_file (bytes +
 abbrev pub GatesHelpless : Type 0
 GatesHelpless = (bytes : List ℕ) (f : AigFault) → Answer (read_file bytes) (Err f) → f.code ≢ End → f.gate ≢ 0 → NoneBegins bytes
 
+-- a fault that bytes show is shown first by one of their bytes: with it the fault is answered, and no value has bytes that begin with those up to it
+pub record IsShown (bytes : List ℕ) (f : AigFault) : Type 0 where
+  pub before : List ℕ
+  pub last : ℕ
+  pub rest : List ℕ
+  pub are : bytes ≡ (before ++ last ∷ []) ++ rest
+  pub not_yet : Answer (read_file before) (Err f) → ⊥
+  pub answer : Answer (read_file (before ++ last ∷ [])) (Err f)
+  pub helpless : NoneBegins (before ++ last ∷ [])
+
+-- so it is with the fault of a binary gate: the bytes up to the end of its difference show it
+abbrev pub GateFaultsAreShown : Type 0
+GateFaultsAreShown = (bytes : List ℕ) (f : AigFault) → Answer (read_file bytes) (Err f) → f.code ≢ End → f.gate ≢ 0 → IsShown bytes f
+
 -- the first lines of bytes, each with its LF
 abbrev pub first_lines : ℕ → List ℕ → List ℕ
 first_lines n bytes = text_of (map bare (take n (lines_of bytes)))
@@ -76,8 +90,10 @@ line_feeds bytes = length (filter (λ b. b == 10) bytes)
 abbrev pub BinaryHelpless : Type 0
 BinaryHelpless = (bytes gates : List ℕ) (f : AigFault) → Answer (read_file bytes) (Err f) → f.code ≢ End → f.gate ≡ 0 → AreGates (read_file bytes).gates gates → (v : Aig) (more : List ℕ) → IsBinary v (first_lines (f.line + line_feeds gates) bytes ++ more) → ⊥
 
--- bytes have at most one answer, and it is a value exactly where they say it
+-- bytes have exactly one answer, that of the function, and it is a value exactly where they say it
 pub record OneAnswer : Type 0 where
   pub only : (bytes : List ℕ) (r s : Result Aig AigFault) → Answer (read_file bytes) r → Answer (read_file bytes) s → r ≡ s
+  pub read : (bytes : List ℕ) (r : Result Aig AigFault) → Answer (read_file bytes) r ↔ (r ≡ read_aig bytes)
+  pub value : (v : Aig) (bytes : List ℕ) → IsAig v bytes ↔ (read_aig bytes ≡ Ok v)
   pub said : (v : Aig) (bytes : List ℕ) → Answer (read_file bytes) (Ok v) → IsAig v bytes
   pub answered : (v : Aig) (bytes : List ℕ) → IsAig v bytes → Answer (read_file bytes) (Ok v)

@@ -1,10 +1,10 @@
 // Gates as nodes: the places of their operands.
 ghost use Rattle.std.specs.Prelude.{◌≡◌, ◌≢◌, ◌/◌, ◌+◌, ℕ, length, map, take, slice_index_or, IfOk, OnOk, MatchOption};
 ghost use Rattle.gi_aiger.specs.Levels.{HasLevels, ClosesCycle, IsDistinct};
-ghost use Rattle.gi_aiger.specs.Places.{ArePlaces, place_at, Resolves};
+ghost use Rattle.gi_aiger.specs.Places.{ArePlaces, place_at, places_by_level, Resolves};
 
 use crate::aig::AndGate;
-use gi_levels::Node;
+use gi_levels::{Node, by_level};
 use std::alloc::{AllocError, Global};
 
 // The place of the gate that defines a variable, `none` where none does.
@@ -62,4 +62,14 @@ pub fn first_cycle(alloc: Global, gates: &[AndGate]) -> Result<Option<usize>, Al
 {
     let nodes = nodes_of(alloc, gates)?;
     gi_levels::first_cycle(alloc, nodes.as_slice())
+}
+
+/// The places of the gates by level, and within a level in their order; no two gates may define the same variable. None exactly
+/// where they have a cycle.
+pub fn places_by_level(alloc: Global, gates: &[AndGate]) -> Result<Option<Vec<usize>>, AllocError>
+    requires { IsDistinct gates.now }
+    ensures { IfOk result (λ found. MatchOption found (HasLevels gates.now → ⊥) (λ places. places.items ≡ places_by_level gates.now)) }
+{
+    let nodes = nodes_of(alloc, gates)?;
+    by_level(alloc, nodes.as_slice())
 }

@@ -1,5 +1,6 @@
 // Laws of the format.
-ghost use Rattle.gi_aiger.specs.Laws.{AsciiHelpless, BinaryHelpless, CycleIsOne, CyclesStay, FaultsStand, GateFaultsStand, GatesHelpless, GatesLast, LinesHelpless, LinesLast, OneAnswer, UndefinedIsHopeless, UsedIsUndefined};
+ghost use Rattle.gi_aiger.specs.Laws.{AsciiHelpless, BinaryHelpless, CycleIsOne, CyclesStay, FaultsStand, GateFaultsAreShown, GateFaultsStand, GatesHelpless, GatesLast, LinesHelpless, LinesLast, OneAnswer, UndefinedIsHopeless, UsedIsUndefined};
+ghost use Rattle.gi_aiger.specs.Places.{GatesHaveLevels};
 ghost use Rattle.gi_aiger.specs.Saying.{ReadIsSaid, SaidIsGood, SaidIsRead, WrittenAgain, WrittenIsRead, WrittenIsSaid};
 
 use std::alloc::Global;
@@ -8,6 +9,12 @@ use std::alloc::Global;
 pub fn cycles_stay()
     ensures one { CycleIsOne }
     ensures stay { CyclesStay }
+{}
+
+/// Gates without cycles have levels: those of the function by a bound on steps. The order by level has each gate once, and levels
+/// don't fall along it.
+pub fn gates_have_levels()
+    ensures { GatesHaveLevels }
 {}
 
 /// Where more variables are used and undefined than lines to come define, no continuation defines them all.
@@ -45,7 +52,13 @@ pub fn no_continuation_helps(_alloc: Global)
     ensures binary { BinaryHelpless }
 {}
 
-/// All bytes have at most one answer, and it is a value exactly where they say it.
+/// Where a binary gate's fault is answered, the bytes up to the end of that difference show it, and no fewer: no value has bytes
+/// that begin with these.
+pub fn gate_faults_are_shown(_alloc: Global)
+    ensures { GateFaultsAreShown }
+{}
+
+/// All bytes have exactly one answer, that of a function of them, and it is a value exactly where they say it.
 pub fn one_answer()
     ensures { OneAnswer }
 {}

@@ -27,9 +27,11 @@ mod writing;
 
 pub use aig::{Aig, AndGate, Latch, Reset, Symbol};
 pub use fault::{AigCode, AigFault};
+pub use gates::places_by_level;
 pub use laws::{
-    answers_stand, cycles_stay, faults_stand, no_continuation_helps, one_answer, read_is_said,
-    said_is_good, said_is_read, undefined_stays, used_and_undefined, written_is_read,
+    answers_stand, cycles_stay, faults_stand, gate_faults_are_shown, gates_have_levels,
+    no_continuation_helps, one_answer, read_is_said, said_is_good, said_is_read, undefined_stays,
+    used_and_undefined, written_is_read,
 };
 pub use lists::{EdgeLists, Edges, Gates, Latches, Symbols};
 pub use read::AigRead;
