@@ -11,6 +11,7 @@ use Rattle.gi_unroll.specs.Frames.{most_of, top_after, with_frame, IsKept, Keeps
 use Rattle.gi_unroll.specs.Steps.{HasLiteral}
 use Rattle.gi_unroll.proofs.Steps.{Grows, edge_within, lit_known, All-longer, length-longer}
 use Rattle.gi_unroll.proofs.Drawing.{before, nodes_drawn, all_drawn, inputs_within, latches_drawn, begun_few}
+use Rattle.gi_unroll.proofs.Chosen.{rebuilt_choices}
 use Rattle.gi_unroll.proofs.Framing.{IsUnrolled-more, IsUnrolled-same, tells}
 
 module _ (s : System) (c : IsCircuit s) (f : Frames) (top n : ℕ) (kept : IsKept (record { system = s; frames = f; top = top })) (above : top < n) where
@@ -65,6 +66,7 @@ module _ (s : System) (c : IsCircuit s) (f : Frames) (top n : ℕ) (kept : IsKep
       record {
         start = λ e. absurd (let z : suc f.made ≡ 0 = e in omega arith);
         lits = lits_within;
+        choices = rebuilt_choices s f n kept.start kept.choices;
         count = λ lt. r.ready.count;
         latches = λ lt. length-map s.nexts (edge_of ending.edges);
         within = λ lt. All-map (λ e. e / 2 ≤ length ending.net) (edge_of ending.edges) s.nexts (λ k d jl. edge_within ending (0 + length s.parts.nodes) (get_or s.nexts k d) r.edges (let le = c.wired.next_nodes k d jl in omega arith));
@@ -76,6 +78,7 @@ module _ (s : System) (c : IsCircuit s) (f : Frames) (top n : ℕ) (kept : IsKep
   literals_kept = record {
     taken = λ v lo hi. let a = grown.from in grown.covers v lo (let h : v < n + (ending.next - n) = hi in omega arith);
     stay = grown.longer.lits;
+    nodes = grown.longer.net;
   }
 
   unrolled_more : (earlier : List (List ℕ)) → IsUnrolled s earlier top f → IsUnrolled s (earlier ++ (frame_of s f n).added) (top_after top n (frame_of s f n).fresh) (frame_of s f n).frames
@@ -165,3 +168,12 @@ module _ (s : System) (c : IsCircuit s) (f : Frames) (top n : ℕ) (kept : IsKep
         clauses = omega (arith, few, l, g.count, length-append (latches_along s f n).draft.clauses g.more);
         literals = omega (arith, short, m, g.literals, sum_by-append (λ (c : List ℕ). length c) (latches_along s f n).draft.clauses g.more);
       }
+
+  -- how many variables it took, and how many frames there are with it
+  pub fresh_of : (frame_of s f n).fresh ≤ most_of s
+  unfolding frame_of
+  fresh_of = fresh_within
+
+  pub made_of : (frame_of s f n).frames.made ≡ f.made + 1
+  unfolding frame_of
+  made_of = let e : suc f.made ≡ f.made + 1 = omega arith in e

@@ -61,7 +61,7 @@ lit_follows net lits chosen values e f le = go (e % 2 == 0) refl
     go true h = f (e / 2) le
     go false h = true_in-opposite values (get_or lits (e / 2) 0) ∙ ap not (f (e / 2) le)
 
-satisfies_left : (values : List Bool) (cs ds : List (List ℕ)) → Satisfies values (cs ++ ds) → Satisfies values cs
+pub satisfies_left : (values : List Bool) (cs ds : List (List ℕ)) → Satisfies values (cs ++ ds) → Satisfies values cs
 satisfies_left values cs ds s = record { each = λ k d lt. subst (λ (c : List ℕ). clause_true values c ≡ true) (get_or_append_left cs ds d k lt) (s.each k d (omega (arith, length-append cs ds))) }
 
 satisfies_right : (values : List Bool) (cs ds : List (List ℕ)) → Satisfies values (cs ++ ds) → Satisfies values ds

@@ -9,3 +9,6 @@ pub mod Drawing
 pub mod Adding
 pub mod Extending
 pub mod Extensions
+pub mod Continuing
+pub mod Chosen
+pub mod Tracing

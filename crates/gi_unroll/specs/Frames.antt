@@ -2,10 +2,11 @@
 use Rattle.std.specs.Prelude.{◌≡◌, ℕ, ◌+◌, ◌-◌, ◌*◌, ◌/◌, ◌<◌, ◌≤◌, ◌⊎◌, ◌==◌, if◌then◌else◌, Bool, false, List, [], ◌++◌, length, count_by, sum_by, slice_index, slice_index_or, All}
 use Rattle.gi_lit.specs.Truth.{true_in, Satisfies}
 use Rattle.gi_circuit.specs.Nodes.{is_gate}
+use Rattle.gi_circuit.specs.declared.node.Node.{Node}
 use Rattle.gi_circuit.specs.Systems.{System, latch_values}
 use Rattle.gi_circuit.specs.Frames.{Frames, no_frames, Framed, frame_of}
 use Rattle.gi_circuit.specs.Encoding.{Chooses, TellValues, inputs_at, free_at, IsUnrolled}
-use Rattle.gi_unroll.specs.Steps.{HasLiteral}
+use Rattle.gi_unroll.specs.Steps.{HasChoices, HasLiteral}
 use Rattle.gi_unroll.specs.declared.frame.Frame.{Frame}
 
 -- a circuit, its frames so far, and the greatest variable that they took
@@ -34,10 +35,11 @@ top_after top n fresh = if fresh == 0 then top else n + fresh - 1
 abbrev pub with_frame : Unrolled → ℕ → Unrolled
 with_frame u n = record u { frames = (frame_of u.system u.frames n).frames; top = top_after u.top n (frame_of u.system u.frames n).fresh }
 
--- what frames have: a literal for each node, and the edges of the next latch states
+-- what frames have: a literal for each node, one node for each choice, and the edges of the next latch states
 pub record IsKept (u : Unrolled) : Type 0 where
   pub start : u.frames.made ≡ 0 → (u.frames.net ≡ []) × (u.frames.lits ≡ [])
   pub lits : length u.frames.lits ≤ u.top
+  pub choices : HasChoices u.frames.net u.frames.choices
   pub count : 0 < u.frames.made → length u.frames.lits ≡ length u.frames.net + 1
   pub latches : 0 < u.frames.made → length u.frames.latches ≡ length u.system.nexts
   pub within : 0 < u.frames.made → All (λ e. e / 2 ≤ length u.frames.net) u.frames.latches
@@ -46,22 +48,27 @@ pub record IsKept (u : Unrolled) : Type 0 where
 abbrev pub TellList : List (List ℕ) → Frames → List ℕ → (List Bool → List Bool) → Type 0
 TellList clauses f lits told = (chosen values : List Bool) → Satisfies values clauses → Chooses f.net f.lits chosen values → (j : ℕ) → j < length lits → true_in values (slice_index lits j) ≡ slice_index_or (told chosen) j false
 
--- each literal of the frame has the value that direct evaluation gives at its time
-pub record TellsFrame (s : System) (clauses : List (List ℕ)) (t : ℕ) (g : Framed) : Type 0 where
-  pub inputs : TellList clauses g.frames g.inputs (λ chosen. inputs_at s chosen t)
-  pub latches : TellList clauses g.frames g.latches (λ chosen. latch_values s (inputs_at s chosen) (free_at s chosen) t)
-  pub outs : TellValues s clauses g.frames t g.outs s.outs
-  pub bads : TellValues s clauses g.frames t g.bads s.bads
-  pub cons : TellValues s clauses g.frames t g.cons s.cons
+-- wherever the clauses of some frames hold, each literal of the frame has the value that direct evaluation gives at its time
+pub record TellsFrameAt (s : System) (clauses : List (List ℕ)) (f : Frames) (t : ℕ) (g : Framed) : Type 0 where
+  pub inputs : TellList clauses f g.inputs (λ chosen. inputs_at s chosen t)
+  pub latches : TellList clauses f g.latches (λ chosen. latch_values s (inputs_at s chosen) (free_at s chosen) t)
+  pub outs : TellValues s clauses f t g.outs s.outs
+  pub bads : TellValues s clauses f t g.bads s.bads
+  pub cons : TellValues s clauses f t g.cons s.cons
+
+-- so it is with the newest frame under the clauses of all frames with it
+abbrev pub TellsFrame : System → List (List ℕ) → ℕ → Framed → Type 0
+TellsFrame s clauses t g = TellsFrameAt s clauses g.frames t g
 
 -- where all clauses before encode the frames before, all with those of the new frame encode all frames, and its literals have their values
 abbrev pub KeepsEncoding : Unrolled → ℕ → Type 0
 KeepsEncoding u n = (earlier : List (List ℕ)) → IsUnrolled u.system earlier u.top u.frames → IsUnrolled u.system (earlier ++ (frame_of u.system u.frames n).added) (with_frame u n).top (with_frame u n).frames × TellsFrame u.system (earlier ++ (frame_of u.system u.frames n).added) u.frames.made (frame_of u.system u.frames n)
 
--- each variable that the new frame takes is that of a node's literal, and the literals there were stay
+-- each variable that the new frame takes is that of a node's literal, and the nodes and literals there were stay
 pub record KeepsLiterals (u : Unrolled) (n : ℕ) : Type 0 where
   pub taken : (v : ℕ) → n ≤ v → v < n + (frame_of u.system u.frames n).fresh → HasLiteral (frame_of u.system u.frames n).frames.lits v
   pub stay : (more : List ℕ) × ((frame_of u.system u.frames n).frames.lits ≡ u.frames.lits ++ more)
+  pub nodes : (more : List Node) × ((frame_of u.system u.frames n).frames.net ≡ u.frames.net ++ more)
 
 -- a variable that the new frame takes, or that a literal of the frames before has
 abbrev pub IsNamed : Unrolled → ℕ → ℕ → Type 0

@@ -3,6 +3,8 @@ use Rattle.std.specs.Prelude.{◌≡◌, ℕ, ◌+◌, ◌*◌, ◌/◌, ◌<◌
 use Rattle.gi_circuit.specs.Nodes.{Parts, pair_of}
 use Rattle.gi_circuit.specs.Frames.{Draft, Along, Frames, lit_of, gate_clauses}
 use Rattle.gi_circuit.specs.declared.node.Node.{Node}
+use Rattle.gi_circuit.specs.declared.node.Node.TheVariants.{Input, Latch, Gate}
+use Rattle.std.specs.List.{range_with_len}
 
 abbrev pub empty_draft : Draft
 empty_draft = record { net = []; choices = 0; lits = []; next = 0; clauses = []; edges = [] }
@@ -50,3 +52,14 @@ pub record IsSame (old new : Draft) : Type 0 where
 -- some literal is of the variable
 abbrev pub HasLiteral : List ℕ → ℕ → Type 0
 HasLiteral lits v = (k : ℕ) × (k < length lits) × (slice_index lits k / 2 ≡ v)
+
+-- the choices that nodes stand for, in the order of the nodes
+unfoldable pub choices_in : List Node → List ℕ
+choices_in [] = []
+choices_in (Input j ∷ ns) = j ∷ choices_in ns
+choices_in (Latch j ∷ ns) = choices_in ns
+choices_in (Gate a b ∷ ns) = choices_in ns
+
+-- each of so many choices has one node, in their order
+abbrev pub HasChoices : List Node → ℕ → Type 0
+HasChoices net n = choices_in net ≡ range_with_len 0 n

@@ -11,5 +11,7 @@ mod tests;
 mod unroll;
 
 pub use frame::Frame;
-pub use laws::extensions_are_one;
+pub use laws::{
+    earlier_frames_stay, extensions_are_one, frames_keep, traces_are_packed, values_choose,
+};
 pub use unroll::Unroll;

@@ -1,7 +1,7 @@
 ghost use Rattle.std.specs.Prelude.{◌≡◌, ◌+◌, ◌<◌, ◌≤◌, [], IfOk, OnOk, OnErr};
 ghost use Rattle.gi_circuit.specs.Frames.{frame_of};
 ghost use Rattle.gi_circuit.specs.Encoding.{IsUnrolled};
-ghost use Rattle.gi_unroll.specs.Frames.{Unrolled, unrolled, most_of, IsFrame, with_frame, top_after, KeepsEncoding, KeepsLiterals, NamesVariables, IsShort};
+ghost use Rattle.gi_unroll.specs.Frames.{IsKept, Unrolled, unrolled, most_of, IsFrame, with_frame, top_after, KeepsEncoding, KeepsLiterals, NamesVariables, IsShort};
 
 use crate::builder::Builder;
 use crate::extend::{Extended, extend};
@@ -45,6 +45,14 @@ impl Unroll {
             made: 0,
             top: 0,
         }
+    }
+
+    /// The circuit.
+    pub fn circuit(&self) -> &Circuit
+        ensures circuit { result.now ≡ self.now.system }
+        ensures kept { IsKept self.now }
+    {
+        &self.circuit
     }
 
     /// How many variables a frame takes at most: one more than there are inputs, latches and gates.
