@@ -1,4 +1,3 @@
 pub mod Giving
-pub mod Sending
 pub mod Answering
 pub mod Completing

@@ -44,7 +44,7 @@ Refuses form bytes text = (fault : CnfFault) × IsFault (format_of form) fault b
 -- How a command ends: the link as it was, as it was when the bytes had come, and as it is.
 abbrev pub Ends : Done → Command → Form → World → World → World → List ℕ → Type 0
 Ends done.Accepted command form old mid new bytes = (text : List ℕ) × IsAll old mid bytes × Accepts command form bytes text × Wrote mid new text
-Ends done.Refused command form old mid new bytes = (text : List ℕ) × IsAll old mid bytes × Refuses form bytes text × Wrote mid new text
+Ends (done.Refused fault) command form old mid new bytes = IsAll old mid bytes × IsFault (format_of form) fault bytes × Wrote mid new (refused_text fault)
 Ends done.WriteFault command form old mid new bytes = (text : List ℕ) × IsAll old mid bytes × (Accepts command form bytes text ⊎ Refuses form bytes text) × WroteCut mid new text
 Ends done.NoMemory command form old mid new bytes = new ≡ mid
 Ends done.ReadFault command form old mid new bytes = Rose old.failed_reads mid.failed_reads × (new ≡ mid)

@@ -1,4 +1,3 @@
-pub mod Written
 pub mod Input
 pub mod Feeding
 pub mod Texts

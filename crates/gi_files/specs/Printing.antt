@@ -11,13 +11,13 @@ abbrev pub Prints : Done → List ℕ → World → World → Type 0
 Prints done.Accepted text mid new = Wrote mid new text
 Prints done.WriteFault text mid new = WroteCut mid new text
 Prints done.NoMemory text mid new = new ≡ mid
-Prints done.Refused text mid new = ⊥
+Prints (done.Refused fault) text mid new = ⊥
 Prints done.ReadFault text mid new = ⊥
 Prints done.TooMuch text mid new = ⊥
 
 -- the refusal was written, or was cut
 abbrev pub PrintsRefusal : Done → CnfFault → World → World → Type 0
-PrintsRefusal done.Refused fault mid new = Wrote mid new (refused_text fault)
+PrintsRefusal (done.Refused told) fault mid new = (told ≡ fault) × Wrote mid new (refused_text fault)
 PrintsRefusal done.WriteFault fault mid new = WroteCut mid new (refused_text fault)
 PrintsRefusal done.Accepted fault mid new = ⊥
 PrintsRefusal done.NoMemory fault mid new = ⊥

@@ -16,13 +16,9 @@ code_text Number = codes "number"
 code_text Limit = codes "limit"
 code_text Unterminated = codes "unterminated"
 
--- a number behind a space
-abbrev pub spaced : ℕ → List ℕ
-spaced n = codes " " ++ decimal n
-
 -- a refused input: the line and the code of its fault
 unfoldable pub refused_text : CnfFault → List ℕ
-refused_text fault = (((codes "refused" ++ spaced fault.line) ++ codes " ") ++ code_text fault.code) ++ 10 ∷ []
+refused_text fault = (((codes "refused " ++ decimal fault.line) ++ codes " ") ++ code_text fault.code) ++ 10 ∷ []
 
 abbrev pub is_clause : Item → Bool
 is_clause (Clause c) = true
@@ -32,10 +28,14 @@ abbrev pub is_ask : Item → Bool
 is_ask (Clause c) = false
 is_ask (Ask lits) = true
 
+-- a word, a number of variables and one of clauses
+abbrev pub counted : List ℕ → ℕ → ℕ → List ℕ
+counted word vars clauses = ((word ++ decimal vars) ++ codes " ") ++ decimal clauses
+
 -- the counts of an accepted CNF file: variables and clauses
 unfoldable pub cnf_counts : Cnf → List ℕ
-cnf_counts v = ((codes "cnf" ++ spaced v.vars) ++ spaced (length v.clauses)) ++ 10 ∷ []
+cnf_counts v = counted (codes "cnf ") v.vars (length v.clauses) ++ 10 ∷ []
 
 -- the counts of an accepted iCNF file: variables, clauses and asks
 unfoldable pub icnf_counts : Icnf → List ℕ
-icnf_counts v = (((codes "icnf" ++ spaced v.vars) ++ spaced (count_by is_clause v.items)) ++ spaced (count_by is_ask v.items)) ++ 10 ∷ []
+icnf_counts v = ((counted (codes "icnf ") v.vars (count_by is_clause v.items) ++ codes " ") ++ decimal (count_by is_ask v.items)) ++ 10 ∷ []

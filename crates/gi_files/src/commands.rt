@@ -1,18 +1,19 @@
 // Commands over a whole input.
+ghost use Rattle.std.specs.Prelude.{List, ℕ};
 ghost use Rattle.gi_outside.specs.World.{World};
+ghost use Rattle.gi_outside.specs.Sent.{Sends};
 ghost use Rattle.gi_files.specs.Commands.{Does, cnf_output, icnf_output};
 ghost use Rattle.gi_files.specs.Printing.{Prints, PrintsRefusal};
 ghost use Rattle.gi_files.specs.declared.command.Command.TheVariants.{Check, Convert};
 ghost use Rattle.gi_files.specs.declared.form.Form.TheVariants as forms;
 
 use crate::command::Command;
-use crate::counts::{counts_of_cnf, counts_of_icnf};
+use crate::counts::{write_cnf_counts, write_icnf_counts};
 use crate::form::Form;
 use crate::reading::{CnfInput, IcnfInput, read_cnf, read_icnf};
 use crate::refusals::write_refused;
-use crate::writing::{Written, write_all};
 use gi_dimacs::{Cnf, CnfFault, Icnf, write_cnf, write_icnf};
-use gi_outside::Link;
+use gi_outside::{Link, Sent, write_all};
 use std::alloc::Global;
 
 /// How a command over an input ends.
@@ -20,8 +21,8 @@ use std::alloc::Global;
 pub enum Done {
     /// The input is of the form, and its output was written.
     Accepted,
-    /// It is not, and the refusal was written.
-    Refused,
+    /// It is not: this is its first fault, whose refusal was written.
+    Refused(CnfFault),
     /// Memory was wanting. Nothing was written.
     NoMemory,
     /// A read failed. Nothing was written.
@@ -87,9 +88,9 @@ fn print_cnf<L: Link>(alloc: Global, command: Command, cnf: &Cnf, user: &mut L) 
     ensures { Prints result (cnf_output command cnf.now) (L.state user.old) (L.state user.new) }
 {
     match command {
-        Command::Check => print(counts_of_cnf(cnf).as_slice(), user),
+        Command::Check => printed(write_cnf_counts(cnf, user)),
         Command::Convert => match write_cnf(alloc, cnf) {
-            Ok(text) => print(text.as_slice(), user),
+            Ok(text) => printed(write_all(text.as_slice(), user)),
             Err(_) => Done::NoMemory,
         },
     }
@@ -100,20 +101,21 @@ fn print_icnf<L: Link>(alloc: Global, command: Command, icnf: &Icnf, user: &mut 
     ensures { Prints result (icnf_output command icnf.now) (L.state user.old) (L.state user.new) }
 {
     match command {
-        Command::Check => print(counts_of_icnf(icnf).as_slice(), user),
+        Command::Check => printed(write_icnf_counts(icnf, user)),
         Command::Convert => match write_icnf(alloc, icnf) {
-            Ok(text) => print(text.as_slice(), user),
+            Ok(text) => printed(write_all(text.as_slice(), user)),
             Err(_) => Done::NoMemory,
         },
     }
 }
 
-fn print<L: Link>(text: &[u8], user: &mut L) -> Done
-    ensures { Prints result text.now (L.state user.old) (L.state user.new) }
+// How a command ends whose output was sent so.
+fn printed(sent: Sent) -> Done
+    ensures { (old new : World) (text : List ℕ) → Sends sent old new text → Prints result text old new }
 {
-    match write_all(text, user) {
-        Written::Whole => Done::Accepted,
-        Written::Cut => Done::WriteFault,
+    match sent {
+        Sent::Done => Done::Accepted,
+        Sent::Failed => Done::WriteFault, // the output was cut
     }
 }
 
@@ -121,7 +123,7 @@ fn refuse<L: Link>(fault: CnfFault, user: &mut L) -> Done
     ensures { PrintsRefusal result fault (L.state user.old) (L.state user.new) }
 {
     match write_refused(fault, user) {
-        Written::Whole => Done::Refused,
-        Written::Cut => Done::WriteFault,
+        Sent::Done => Done::Refused(fault),
+        Sent::Failed => Done::WriteFault,
     }
 }

@@ -1,12 +1,9 @@
 // Rows from the formats' rules, and each call once with ample memory.
-use crate::{
-    CnfInput, Done, Form, IcnfInput, Written, check, convert, read_cnf, read_icnf, write_refused,
-};
+use crate::{CnfInput, Done, Form, IcnfInput, check, convert, read_cnf, read_icnf, write_refused};
 use gi_dimacs::{CnfCode, CnfFault};
-use gi_outside::MemoryLink;
+use gi_outside::{MemoryLink, Sent};
 use gi_text::Bytes;
 use std::alloc::{AllocError, Global};
-use std::test::Fail;
 
 // Inputs with the line that `check` prints, and what `convert` prints.
 const ACCEPTED: [(Form, &[u8], &[u8], &[u8]); 5] = [
@@ -24,9 +21,9 @@ const ACCEPTED: [(Form, &[u8], &[u8], &[u8]); 5] = [
     ),
     (
         Form::Cnf,
-        b"p cnf 1048576 4294967295",
-        b"cnf 1048576 0\n",
-        b"p cnf 1048576 0\n",
+        b"p cnf 16777216 4294967295",
+        b"cnf 16777216 0\n",
+        b"p cnf 16777216 0\n",
     ),
     (
         Form::Icnf,
@@ -42,120 +39,179 @@ const ACCEPTED: [(Form, &[u8], &[u8], &[u8]); 5] = [
     ),
 ];
 
-// Inputs with the line that refuses them.
-const REFUSED: [(Form, &[u8], &[u8]); 8] = [
-    (Form::Cnf, b"", b"refused 1 header\n"),
-    (Form::Icnf, b"c\n\n", b"refused 3 header\n"),
-    (Form::Icnf, b"p cnf 1 1\n1 0\n", b"refused 1 header\n"),
-    (Form::Cnf, b"p cnf 2 1\n1 x 0\n", b"refused 2 word\n"),
-    (Form::Cnf, b"p cnf 1 1\n1 0\n1 -0 y", b"refused 3 number\n"),
+// Inputs with the line that refuses them, and the fault that it names.
+const REFUSED: [(Form, &[u8], &[u8], u64, CnfCode); 8] = [
+    (Form::Cnf, b"", b"refused 1 header\n", 1, CnfCode::Header),
+    (
+        Form::Icnf,
+        b"c\n\n",
+        b"refused 3 header\n",
+        3,
+        CnfCode::Header,
+    ),
+    (
+        Form::Icnf,
+        b"p cnf 1 1\n1 0\n",
+        b"refused 1 header\n",
+        1,
+        CnfCode::Header,
+    ),
+    (
+        Form::Cnf,
+        b"p cnf 2 1\n1 x 0\n",
+        b"refused 2 word\n",
+        2,
+        CnfCode::Word,
+    ),
+    (
+        Form::Cnf,
+        b"p cnf 1 1\n1 0\n1 -0 y",
+        b"refused 3 number\n",
+        3,
+        CnfCode::Number,
+    ),
     (
         Form::Cnf,
         b"p cnf 1 1\n99999999999 0\n",
         b"refused 2 limit\n",
+        2,
+        CnfCode::Limit,
     ),
-    (Form::Cnf, b"p cnf 1 1\n1\n", b"refused 3 unterminated\n"),
+    (
+        Form::Cnf,
+        b"p cnf 1 1\n1\n",
+        b"refused 3 unterminated\n",
+        3,
+        CnfCode::Unterminated,
+    ),
     (
         Form::Icnf,
         b"p inccnf\n1\na 1 0\n",
         b"refused 3 unterminated\n",
+        3,
+        CnfCode::Unterminated,
     ),
 ];
 
-// A link that gives the input in pieces of two bytes at first.
+// Faults of a link: the numbers of the read and of the write that fail; and the end.
+const FAULTS: [(&[u8], u64, u64, Done); 5] = [
+    (b"p cnf 0 0\n", 1, 0, Done::ReadFault),
+    (b"p cnf 0 0\n", 3, 0, Done::ReadFault),
+    (b"p cnf 0 0\n", 5, 0, Done::ReadFault),
+    (b"p cnf 0 0\n", 0, 1, Done::WriteFault),
+    (b"p dnf 0 0\n", 0, 1, Done::WriteFault),
+];
+
+// A link that gives the input in pieces of two bytes at first, and of which this read and this write fail.
 fn link(
     alloc: Global,
     input: &[u8],
-    bad_reads: Vec<u64>,
-    bad_writes: Vec<u64>,
+    bad_read: u64,
+    bad_write: u64,
 ) -> Result<MemoryLink, AllocError> {
     Ok(MemoryLink::new(
         alloc,
         Bytes::of(alloc, input)?,
         vec![in alloc; 2, 2, 2]?,
-        bad_reads,
-        bad_writes,
+        vec![in alloc; bad_read]?,
+        vec![in alloc; bad_write]?,
     ))
 }
 
+// Whether `check` ends so, and writes this.
+fn checks(alloc: Global, form: Form, input: &[u8], output: &[u8], done: Done) -> bool {
+    match link(alloc, input, 0, 0) {
+        Ok(mut user) => check(alloc, form, &mut user) == done && user.written() == output,
+        Err(_) => false,
+    }
+}
+
+// Whether `convert` ends so, and writes this.
+fn converts(alloc: Global, form: Form, input: &[u8], output: &[u8], done: Done) -> bool {
+    match link(alloc, input, 0, 0) {
+        Ok(mut user) => convert(alloc, form, &mut user) == done && user.written() == output,
+        Err(_) => false,
+    }
+}
+
+// Whether `check` over a link with these faults ends so, and writes nothing.
+fn fails(alloc: Global, input: &[u8], bad_read: u64, bad_write: u64, done: Done) -> bool {
+    match link(alloc, input, bad_read, bad_write) {
+        Ok(mut user) => {
+            check(alloc, Form::Cnf, &mut user) == done && user.written() == b"".as_slice()
+        }
+        Err(_) => false,
+    }
+}
+
 #[test]
-fn accepted(rt: HostRuntime) -> Result<(), Fail> {
+fn inputs(rt: HostRuntime) {
     let alloc = rt.alloc();
     for (form, input, counts, text) in ACCEPTED {
-        let mut user = link(alloc, input, Vec::new(alloc), Vec::new(alloc))?;
-        assert_eq!(rt; check(alloc, form, &mut user), Done::Accepted);
-        assert_eq!(rt; user.written(), counts);
-        let mut user = link(alloc, input, Vec::new(alloc), Vec::new(alloc))?;
-        assert_eq!(rt; convert(alloc, form, &mut user), Done::Accepted);
-        assert_eq!(rt; user.written(), text);
+        assert!(rt; checks(alloc, form, input, counts, Done::Accepted));
+        assert!(rt; converts(alloc, form, input, text, Done::Accepted));
     }
-    Ok(())
 }
 
 #[test]
-fn refused(rt: HostRuntime) -> Result<(), Fail> {
+fn refusals(rt: HostRuntime) {
     let alloc = rt.alloc();
-    for (form, input, line) in REFUSED {
-        let mut user = link(alloc, input, Vec::new(alloc), Vec::new(alloc))?;
-        assert_eq!(rt; check(alloc, form, &mut user), Done::Refused);
-        assert_eq!(rt; user.written(), line);
-        let mut user = link(alloc, input, Vec::new(alloc), Vec::new(alloc))?;
-        assert_eq!(rt; convert(alloc, form, &mut user), Done::Refused);
-        assert_eq!(rt; user.written(), line);
+    for (form, input, line, at, code) in REFUSED {
+        let refused = Done::Refused(CnfFault { line: at, code });
+        assert!(rt; checks(alloc, form, input, line, refused));
+        assert!(rt; converts(alloc, form, input, line, refused));
     }
-    Ok(())
 }
 
 #[test]
-fn failing_links(rt: HostRuntime) -> Result<(), Fail> {
+fn faults(rt: HostRuntime) {
     let alloc = rt.alloc();
-    for (input, bad_read, bad_write, done) in [
-        (b"p cnf 0 0\n".as_slice(), 1, 0, Done::ReadFault),
-        (b"p cnf 0 0\n".as_slice(), 3, 0, Done::ReadFault),
-        (b"p cnf 0 0\n".as_slice(), 5, 0, Done::ReadFault),
-        (b"p cnf 0 0\n".as_slice(), 0, 1, Done::WriteFault),
-        (b"p dnf 0 0\n".as_slice(), 0, 1, Done::WriteFault),
-    ] {
-        let bad_reads = vec![in alloc; bad_read]?;
-        let bad_writes = vec![in alloc; bad_write]?;
-        let mut user = link(alloc, input, bad_reads, bad_writes)?;
-        assert_eq!(rt; check(alloc, Form::Cnf, &mut user), done);
-        assert_eq!(rt; user.written(), b"".as_slice());
+    for (input, bad_read, bad_write, done) in FAULTS {
+        assert!(rt; fails(alloc, input, bad_read, bad_write, done));
     }
-    Ok(())
 }
 
-#[test]
-fn inputs(rt: HostRuntime) -> Result<(), Fail> {
-    let alloc = rt.alloc();
-    let mut user = link(
-        alloc,
-        b"p cnf 4 0\n2 -3 0\n",
-        Vec::new(alloc),
-        Vec::new(alloc),
-    )?;
-    match read_cnf(alloc, &mut user) {
-        CnfInput::Cnf(cnf) => assert_eq!(rt; (cnf.vars, cnf.clauses.len()), (4, 1)),
-        _ => panic!(rt; "a CNF file is refused"),
+// Whether a CNF file is read with so many variables and clauses.
+fn reads_cnf(alloc: Global, input: &[u8], vars: u32, clauses: usize) -> bool {
+    match link(alloc, input, 0, 0) {
+        Ok(mut user) => match read_cnf(alloc, &mut user) {
+            CnfInput::Cnf(cnf) => cnf.vars == vars && cnf.clauses.len() == clauses,
+            _ => false,
+        },
+        Err(_) => false,
     }
-    let mut user = link(
-        alloc,
-        b"p inccnf\n2 -3 0\na 0\n",
-        Vec::new(alloc),
-        Vec::new(alloc),
-    )?;
-    match read_icnf(alloc, &mut user) {
-        IcnfInput::Icnf(icnf) => assert_eq!(rt; (icnf.vars, icnf.items.len()), (3, 2)),
-        _ => panic!(rt; "an iCNF file is refused"),
+}
+
+// Whether an iCNF file is read with so many variables and items.
+fn reads_icnf(alloc: Global, input: &[u8], vars: u32, items: usize) -> bool {
+    match link(alloc, input, 0, 0) {
+        Ok(mut user) => match read_icnf(alloc, &mut user) {
+            IcnfInput::Icnf(icnf) => icnf.vars == vars && icnf.items.len() == items,
+            _ => false,
+        },
+        Err(_) => false,
     }
+}
+
+// Whether the greatest line number is refused so.
+fn refuses_the_last_line(alloc: Global) -> bool {
     let fault = CnfFault {
         line: 18_446_744_073_709_551_615,
         code: CnfCode::Unterminated,
     };
-    assert_eq!(rt; write_refused(fault, &mut user), Written::Whole);
-    assert_eq!(rt;
-        user.written(),
-        b"refused 18446744073709551615 unterminated\n".as_slice()
-    );
-    Ok(())
+    match link(alloc, b"", 0, 0) {
+        Ok(mut user) => {
+            write_refused(fault, &mut user) == Sent::Done
+                && user.written() == b"refused 18446744073709551615 unterminated\n".as_slice()
+        }
+        Err(_) => false,
+    }
+}
+
+#[test]
+fn calls(rt: HostRuntime) {
+    let alloc = rt.alloc();
+    assert!(rt; reads_cnf(alloc, b"p cnf 4 0\n2 -3 0\n", 4, 1));
+    assert!(rt; reads_icnf(alloc, b"p inccnf\n2 -3 0\na 0\n", 3, 2));
+    assert!(rt; refuses_the_last_line(alloc));
 }
