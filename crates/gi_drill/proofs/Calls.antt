@@ -179,7 +179,7 @@ dies : (s : State) (c : Call) → after s c reply.NoMemory ≡ dead_state
 unfolding after
 dies s c = refl
 
-goes_on : (p : Problem) (pending : List ℕ) (known : List (List ℕ)) (serial : ℕ) (r : Run) (mark : ℕ) (news : List (List ℕ)) → after (at p pending known (running r) serial) (call.Work mark) (reply.Worked news Live) ≡ at p pending (known ++ news) (running (record r { spent = r.spent + length news })) serial
+goes_on : (p : Problem) (pending : List ℕ) (known : List (List ℕ)) (serial : ℕ) (r : Run) (mark : ℕ) (news : List (List ℕ)) → after (at p pending known (running r) serial) (call.Work mark) (reply.Worked news Live) ≡ at p pending (known ++ news) (running (record r { spent = r.spent + length news; slices = r.slices + 1 })) serial
 unfolding after
 goes_on p pending known serial r mark news = refl
 
@@ -193,8 +193,8 @@ by_now : (goal : Tally → Type 0) (t : Tally) (p : Problem) (pending : List ℕ
     → ((known' : List (List ℕ)) (q : Run) → q.serial ≡ n → q.assumed ≡ assumed → Ahead (at p pending known' (running q) serial) (call.Wait ∷ cs) es → Comes goal t es) → Comes goal t es
 by_now goal t p pending known serial r n assumed cs e es mark news Live same given is answer w h k again =
     let s = at p pending known (running r) serial in
-    let eq : after s e.call e.reply ≡ at p pending (known ++ news) (running (record r { spent = r.spent + length news })) serial = ap (λ (d : Call). after s d e.reply) is ∙ ap (after s (call.Work mark)) answer ∙ goes_on p pending known serial r mark news in
-    again (known ++ news) (record r { spent = r.spent + length news }) same given (ahead_work s (at p pending (known ++ news) (running (record r { spent = r.spent + length news })) serial) (call.Wait ∷ cs) e es (ap is_work is) eq h)
+    let eq : after s e.call e.reply ≡ at p pending (known ++ news) (running (record r { spent = r.spent + length news; slices = r.slices + 1 })) serial = ap (λ (d : Call). after s d e.reply) is ∙ ap (after s (call.Work mark)) answer ∙ goes_on p pending known serial r mark news in
+    again (known ++ news) (record r { spent = r.spent + length news; slices = r.slices + 1 }) same given (ahead_work s (at p pending (known ++ news) (running (record r { spent = r.spent + length news; slices = r.slices + 1 })) serial) (call.Wait ∷ cs) e es (ap is_work is) eq h)
 by_now goal t p pending known serial r n assumed cs e es mark news (Ended v) same given is answer w h k again =
     let s = at p pending known (running r) serial in
     let eq : after s e.call e.reply ≡ at p pending (known ++ news) (ended n v) serial = ap (λ (d : Call). after s d e.reply) is ∙ ap (after s (call.Work mark)) answer ∙ comes_to_end p pending known serial r mark news v ∙ ap (λ (m : ℕ). at p pending (known ++ news) (ended m v) serial) same in

@@ -1,4 +1,3 @@
-pub mod Sending
 pub mod Drawing
 pub mod Texts
 pub mod Calls

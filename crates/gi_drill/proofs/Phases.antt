@@ -4,7 +4,9 @@ use Rattle.std.specs.List.{AllByRecursion, sum_by}
 use Rattle.std.proofs.lemmas.Bool.{le-leb, lt-leb, le-ltb, ne_eqb}
 use Rattle.std.proofs.lemmas.List.{append-nil}
 use Rattle.std.proofs.lemmas.List.Sums.{sum_by_push}
-use Rattle.gi_lit.specs.Problem.{Pair, Problem, lit_count, clause_count, top}
+use Rattle.gi_lit.specs.Problem.{Group, Problem, lit_count, clause_count, top}
+use Rattle.gi_lit.specs.Literals.{max_var}
+use Rattle.gi_model.specs.Limits.{most_clauses, most_lits}
 use Rattle.gi_model.specs.State.{Solve, no_solve, running, paused, ended, live_run, opening, scope_assumed}
 use Rattle.gi_model.specs.Refusals.{admits, refuses, some_unusable, is_full}
 use Rattle.gi_model.specs.Effects.{after, edited, trimmed}
@@ -68,13 +70,13 @@ started_none n r q = absurd cc
 pub bye_none : IsNone reply.Bye
 bye_none r q = absurd cc
 
--- a problem with no pairs and no active guard
+-- a problem with no groups and no active guard
 abbrev pub plain_problem : (vars : ℕ) (plain : List (List ℕ)) (freed : List ℕ) → Problem
-plain_problem vars plain freed = record { vars = vars; plain = plain; pairs = []; active = []; freed = freed }
+plain_problem vars plain freed = record { vars = vars; plain = plain; groups = []; active = []; freed = freed }
 
 -- the guard is active
-abbrev pub held : (plain : List (List ℕ)) (pairs : List Pair) → Problem
-held plain pairs = record { vars = 151; plain = plain; pairs = pairs; active = 151 ∷ []; freed = [] }
+abbrev pub held : (plain : List (List ℕ)) (groups : List Group) → Problem
+held plain groups = record { vars = 151; plain = plain; groups = groups; active = 151 ∷ []; freed = [] }
 
 -- literals of the first 150 variables
 abbrev pub IsWithin : ℕ → Type 0
@@ -98,18 +100,18 @@ usable_plain : (plain : List (List ℕ)) (c : List ℕ) → AreWithin c → some
 usable_plain plain [] h = refl
 usable_plain plain (l ∷ c) h = rw (le-leb 1 (l / 2) h.0.0, le-leb (l / 2) 150 h.0.1) (usable_plain plain c h.1)
 
-pub usable_held : (plain : List (List ℕ)) (pairs : List Pair) (l : ℕ) → IsWithin l → some_unusable (held plain pairs) (l ∷ []) ≡ false
-usable_held plain pairs l h = rw (le-leb 1 (l / 2) h.0, le-leb (l / 2) 151 (omega (arith, h.1)), ne_eqb (l / 2) 151 (λ e. omega (arith, h.1))) refl
+pub usable_held : (plain : List (List ℕ)) (groups : List Group) (l : ℕ) → IsWithin l → some_unusable (held plain groups) (l ∷ []) ≡ false
+usable_held plain groups l h = rw (le-leb 1 (l / 2) h.0, le-leb (l / 2) 151 (omega (arith, h.1)), ne_eqb (l / 2) 151 (λ e. omega (arith, h.1))) refl
 
 -- the plain clauses are few and short
 pub record AreFew (plain : List (List ℕ)) (n : ℕ) : Type 0 where
   pub count : length plain ≤ n
   pub lits : sum_by length plain ≤ 3 * n
 
-pub within_limits : (p : Problem) (c : List ℕ) → top c ≤ 150 → clause_count p ≤ 1000 → lit_count p ≤ 10000 → length c ≤ 3 → is_full p c ≡ false
-within_limits p c t n m l = rw (le-ltb 1048576 (top c) (omega arith), le-ltb 4194304 (clause_count p + 1) (omega arith), le-ltb 67108864 (lit_count p + length c) (omega arith)) refl
+pub within_limits : (p : Problem) (c : List ℕ) → top c ≤ 150 → clause_count p ≤ 1000 → lit_count p ≤ 10000 → length c ≤ 3 → is_full p c (length c) ≡ false
+within_limits p c t n m l = rw (le-ltb max_var (top c) (omega arith), le-ltb most_clauses (clause_count p + 1) (omega arith), le-ltb most_lits (lit_count p + length c) (omega arith)) refl
 
-plain_full : (plain : List (List ℕ)) (n : ℕ) (c : List ℕ) → AreFew plain n → n ≤ 600 → IsTriple c → is_full (plain_problem 150 plain []) c ≡ false
+plain_full : (plain : List (List ℕ)) (n : ℕ) (c : List ℕ) → AreFew plain n → n ≤ 600 → IsTriple c → is_full (plain_problem 150 plain []) c (length c) ≡ false
 unfolding lit_count
 plain_full plain n c few low h = within_limits (plain_problem 150 plain []) c (top_low c h.within) (omega (arith, few.count)) (omega (arith, few.lits)) (omega (arith, h.three))
 
@@ -186,7 +188,7 @@ solved goal t p pending known v serial more es calm low h k =
     take goal t s (call.Solve 4294967295) (call.Wait ∷ more) es (reply.Started (serial + 1)) (rests p pending known v serial calm)
     (accepts s (call.Solve 4294967295) refl (refl, (admits_all v (call.Solve 4294967295) calm, (refl, (refl, (refl, (refl, (lt-leb 72057594037927936 serial (omega arith), (refl, (refl, (refl, (refl, (refl, tt)))))))))))) refl)
     (λ x e. e) (started_none (serial + 1)) h
-    (λ rest ahead. next_wait goal t p [] (trimmed known) (serial + 1) (record { serial = serial + 1; assumed = pending; budget = 4294967295; spent = 0 }) (serial + 1) pending more rest refl refl ahead
+    (λ rest ahead. next_wait goal t p [] (trimmed known) (serial + 1) (record { serial = serial + 1; assumed = pending; budget = 4294967295; spent = 0; slices = 0 }) (serial + 1) pending more rest refl refl ahead
     (λ known' verdict answer last f a l there. wait_ends goal t p known' (serial + 1) (serial + 1) verdict answer more last
     (answered (at p [] known' (ended (serial + 1) verdict) (serial + 1)) call.Wait answer (wait_taken p known' (serial + 1) (serial + 1) verdict) l a) there
     (λ aheads. k known' verdict last f aheads)))

@@ -6,6 +6,7 @@ use Rattle.std.proofs.lemmas.Bool.{and_parts, le-leb}
 use Rattle.std.proofs.lemmas.Bool.Decides.{eqb_tells}
 use Rattle.std.proofs.lemmas.List.{append-nil, length-map}
 use Rattle.std.proofs.lemmas.List.Elements.{All-from_recursion}
+use Rattle.gi_lit.specs.Literals.{max_var}
 use Rattle.gi_model.specs.declared.calls.Call.{Call}
 use Rattle.gi_model.specs.declared.calls.Call.TheVariants.{Vars, Add, NewGuard, Under, DropGuard, Assume, Solve, Wait, Bye}
 use Rattle.gi_text.specs.Lines.{line_at}
@@ -15,7 +16,7 @@ use Rattle.gi_text.proofs.Splits.{line_of_parts}
 use Rattle.gi_wire.specs.Grammar.{Makes, ask_of, call_alone, call_of, call_with}
 use Rattle.gi_wire.specs.declared.reader.Asked.TheVariants as asked
 use Rattle.gi_wire.specs.declared.reader.Item.{Item}
-use Rattle.gi_wire.specs.Items.{InLine, item, items_from}
+use Rattle.gi_wire.specs.Items.{alone, at_start, item, items_from}
 use Rattle.gi_wire.specs.Literals.{list_text}
 use Rattle.gi_wire.proofs.Reading.{line_first, nothing_ahead, short_line}
 use Rattle.gi_drill.specs.Instance.{first_clauses}
@@ -53,7 +54,7 @@ unfolding call_text words_from ask_of call_of call_with
 reads_vars k h =
     let w = decimal_word k h in
     record {
-      asks = ap (λ (ws : List (List ℕ)). ask_of (codes "vars" ∷ ws)) (word_last (decimal k) w) ∙ rw (number-decimal k (omega arith), le-leb 0 k (omega arith), le-leb k 1048576 (omega arith)) refl;
+      asks = ap (λ (ws : List (List ℕ)). ask_of (codes "vars" ∷ ws)) (word_last (decimal k) w) ∙ rw (number-decimal k (omega arith), le-leb 0 k (omega arith), le-leb k max_var (omega arith)) refl;
       no_lf = no_lf-word (decimal k) w.bytes;
       short = omega (arith, w.few);
     }
@@ -63,7 +64,7 @@ unfolding call_text words_from ask_of call_of call_with
 reads_drop g low h =
     let w = decimal_word g h in
     record {
-      asks = ap (λ (ws : List (List ℕ)). ask_of (codes "drop" ∷ ws)) (word_last (decimal g) w) ∙ rw (number-decimal g (omega arith), le-leb 1 g low, le-leb g 1048576 (omega arith)) refl;
+      asks = ap (λ (ws : List (List ℕ)). ask_of (codes "drop" ∷ ws)) (word_last (decimal g) w) ∙ rw (number-decimal g (omega arith), le-leb 1 g low, le-leb g max_var (omega arith)) refl;
       no_lf = no_lf-word (decimal g) w.bytes;
       short = omega (arith, w.few);
     }
@@ -84,13 +85,13 @@ reads_assume c h few = record {
   short = omega (arith, list_short c h);
 }
 
-reads_under : (g : ℕ) (c : List ℕ) → 1 ≤ g → g ≤ 1000 → AllByRecursion IsSmall c → length c ≤ 3 → IsReadable (Under g c)
+reads_under : (g : ℕ) (c : List ℕ) → 1 ≤ g → g ≤ 1000 → AllByRecursion IsSmall c → length c ≤ 3 → IsReadable (Under (g ∷ []) c)
 unfolding call_text words_from ask_of call_of
 reads_under g c low high h few =
     let w = decimal_word g high in
     record {
       asks = ap (λ (ws : List (List ℕ)). ask_of (codes "under" ∷ ws)) (word_space (decimal g) (list_text c) w ∙ ap (λ (ws : List (List ℕ)). decimal g ∷ ws) (words_list c h))
-          ∙ rw (number-decimal g (omega arith), le-leb 1 g low, le-leb g 1048576 (omega arith), list_read c h) refl;
+          ∙ rw (number-decimal g (omega arith), le-leb 1 g low, le-leb g max_var (omega arith), list_read c h) refl;
       no_lf = no_lf-append (decimal g) (32 ∷ list_text c) (no_lf-word (decimal g) w.bytes) (no_lf-list c h);
       short = omega (arith, length-append (decimal g) (32 ∷ list_text c), w.few, list_short c h);
     }
@@ -143,16 +144,16 @@ other_bytes (x ∷ xs) h = let p = and_parts (not (x == 10)) (no_lf xs) h in (di
       | inr f ↦ f.1 q
     ]
 
-pub lines_read : (ended : Bool) (line : ℕ) (cs : List Call) → AllByRecursion IsReadable cs → items_from ended line (InLine []) (lines_text cs) ≡ numbered line cs
+pub lines_read : (ended : Bool) (line : ℕ) (cs : List Call) → AllByRecursion IsReadable cs → items_from ended line (at_start line) (lines_text cs) ≡ numbered line cs
 lines_read ended line [] h = nothing_ahead ended line
 lines_read ended line (c ∷ cs) h =
     let text = call_text c in
     let rest = lines_text cs in
     let first : line_at (text ++ 10 ∷ rest) ≡ Some (text, rest) = line_of_parts text rest (All-from_recursion (λ b. b ≢ 10) text (other_bytes text h.0.no_lf)) in
-    ap (items_from ended line (InLine [])) (append_assoc text (10 ∷ []) rest ∙ sym (append-nil (text ++ 10 ∷ rest)))
-    ∙ line_first ended line [] (text ++ 10 ∷ rest) text rest [] first
-    ∙ short_line line text (Some (Makes c)) (λ j p. items_from ended j p (rest ++ [])) (omega (arith, h.0.short)) h.0.asks
-    ∙ ap (λ (xs : List ℕ). item line (asked.Call c) ∷ items_from ended (line + 1) (InLine []) xs) (append-nil rest)
+    ap (items_from ended line (at_start line)) (append_assoc text (10 ∷ []) rest ∙ sym (append-nil (text ++ 10 ∷ rest)))
+    ∙ line_first ended line (alone line) [] (text ++ 10 ∷ rest) text rest [] first
+    ∙ short_line line text (Makes c) (λ j p. items_from ended j p (rest ++ [])) (omega (arith, h.0.short)) h.0.asks
+    ∙ ap (λ (xs : List ℕ). item line (asked.Call c) ∷ items_from ended (line + 1) (at_start (line + 1)) xs) (append-nil rest)
     ∙ ap (λ (is : List Item). item line (asked.Call c) ∷ is) (lines_read ended (line + 1) cs h.1)
 
 pub script_read : ScriptIsRead

@@ -5,7 +5,7 @@ use Rattle.std.proofs.lemmas.List.{append-nil}
 use Rattle.std.proofs.lemmas.List.Elements.{All-head, All-tail, All-nil}
 use Rattle.gi_lit.specs.Lists.{IsSublist}
 use Rattle.gi_lit.specs.Truth.{true_in, clause_true, Satisfies, Fail}
-use Rattle.gi_lit.specs.Problem.{Pair, Problem, force, lit_count, top, without, without_pairs, without_var}
+use Rattle.gi_lit.specs.Problem.{Group, Problem, as_given, force, lit_count, top, without, without_groups, without_var}
 use Rattle.gi_lit.proofs.Literals.{true_in-opposite}
 use Rattle.gi_lit.proofs.Agreeing.{opposite-odd}
 use Rattle.gi_model.specs.State.{Solve, no_solve, ended}
@@ -17,7 +17,7 @@ use Rattle.gi_model.specs.declared.replies.Reply.TheVariants as reply
 use Rattle.gi_model.specs.declared.replies.Verdict.{Verdict}
 use Rattle.gi_model.specs.declared.replies.Verdict.TheVariants.{Sat, Unsat, Unknown}
 use Rattle.gi_drill.specs.declared.tally.Tally.{Tally}
-use Rattle.gi_drill.specs.Script.{round}
+use Rattle.gi_drill.specs.Script.{guarding, round}
 use Rattle.gi_drill.proofs.Calls.{Ahead, Comes, IsFound, accepts, at, no_more, take}
 use Rattle.gi_drill.proofs.Phases.{AreFew, IsResting, IsWithin, admits_all, bye_none, counted, done_none, edit_ends, guard_none, held, plain_problem, raised_low, rests, solved, tally, usable_held, vars_none, within_limits}
 
@@ -50,39 +50,39 @@ single : (l : ℕ) → IsWithin l → top (l ∷ []) ≤ 150
 unfolding top
 single l h = omega (arith, h.1)
 
--- one pair more, of which there are few
-under_taken : (goal : Tally → Type 0) (t : Tally) (l : ℕ) (plain : List (List ℕ)) (pairs : List Pair) (known : List (List ℕ)) (serial : ℕ) (more : List Call) (es : List Entry)
-    → IsWithin l → AreFew plain 600 → length pairs ≤ 2 → sum_by (λ (q : Pair). length q.clause) pairs ≤ 2
-    → Ahead (at (held plain pairs) [] known no_solve serial) (call.Under 151 (l ∷ []) ∷ more) es
-    → ((rest : List Entry) → Ahead (at (held plain (pairs ++ record { guard = 151; clause = l ∷ [] } ∷ [])) [] known no_solve serial) more rest → Comes goal t rest) → Comes goal t es
+-- one group more, of which there are few
+under_taken : (goal : Tally → Type 0) (t : Tally) (l : ℕ) (plain : List (List ℕ)) (groups : List Group) (known : List (List ℕ)) (serial : ℕ) (more : List Call) (es : List Entry)
+    → IsWithin l → AreFew plain 600 → length groups ≤ 2 → sum_by as_given groups ≤ 2
+    → Ahead (at (held plain groups) [] known no_solve serial) (call.Under guarding (l ∷ []) ∷ more) es
+    → ((rest : List Entry) → Ahead (at (held plain (groups ++ record { guards = guarding; clause = l ∷ [] } ∷ [])) [] known no_solve serial) more rest → Comes goal t rest) → Comes goal t es
 unfolding after lit_count
-under_taken goal t l plain pairs known serial more es good few count lits h k =
-    let s = at (held plain pairs) [] known no_solve serial in
+under_taken goal t l plain groups known serial more es good few count lits h k =
+    let s = at (held plain groups) [] known no_solve serial in
     let wide : max 151 (top (l ∷ [])) ≡ 151 = omega (arith, single l good) in
-    take goal t s (call.Under 151 (l ∷ [])) more es reply.Done refl
-    (accepts s (call.Under 151 (l ∷ [])) refl (refl, (refl, (refl, (usable_held plain pairs l good, (refl, (refl, (within_limits (held plain pairs) (l ∷ []) (single l good) (omega (arith, few.count)) (omega (arith, few.lits)) (omega arith), (refl, (refl, (refl, (refl, (refl, tt)))))))))))) refl)
+    take goal t s (call.Under guarding (l ∷ [])) more es reply.Done refl
+    (accepts s (call.Under guarding (l ∷ [])) refl (refl, (refl, (refl, (usable_held plain groups l good, (refl, (refl, (within_limits (held plain groups) (l ∷ []) (single l good) (omega (arith, few.count)) (omega (arith, few.lits)) (omega arith), (refl, (refl, (refl, (refl, (refl, tt)))))))))))) refl)
     (λ x e. e) done_none h
-    (λ rest ahead. k rest (subst (λ (m : ℕ). Ahead (at (record { vars = m; plain = plain; pairs = pairs ++ record { guard = 151; clause = l ∷ [] } ∷ []; active = 151 ∷ []; freed = [] }) [] known no_solve serial) more rest) wide ahead))
+    (λ rest ahead. k rest (subst (λ (m : ℕ). Ahead (at (record { vars = m; plain = plain; groups = groups ++ record { guards = guarding; clause = l ∷ [] } ∷ []; active = 151 ∷ []; freed = [] }) [] known no_solve serial) more rest) wide ahead))
 
-abbrev pub pair : ℕ → Pair
-pair l = record { guard = 151; clause = l ∷ [] }
+abbrev pub group : ℕ → Group
+group l = record { guards = guarding; clause = l ∷ [] }
 
-assumed : (goal : Tally → Type 0) (t : Tally) (plain : List (List ℕ)) (pairs : List Pair) (known : List (List ℕ)) (serial : ℕ) (more : List Call) (es : List Entry)
-    → Ahead (at (held plain pairs) [] known no_solve serial) (call.Assume (302 ∷ []) ∷ more) es
-    → ((rest : List Entry) → Ahead (at (held plain pairs) (302 ∷ []) known no_solve serial) more rest → Comes goal t rest) → Comes goal t es
+assumed : (goal : Tally → Type 0) (t : Tally) (plain : List (List ℕ)) (groups : List Group) (known : List (List ℕ)) (serial : ℕ) (more : List Call) (es : List Entry)
+    → Ahead (at (held plain groups) [] known no_solve serial) (call.Assume (302 ∷ []) ∷ more) es
+    → ((rest : List Entry) → Ahead (at (held plain groups) (302 ∷ []) known no_solve serial) more rest → Comes goal t rest) → Comes goal t es
 unfolding after top
-assumed goal t plain pairs known serial more es h k =
-    let s = at (held plain pairs) [] known no_solve serial in
+assumed goal t plain groups known serial more es h k =
+    let s = at (held plain groups) [] known no_solve serial in
     take goal t s (call.Assume (302 ∷ [])) more es reply.Done refl
     (accepts s (call.Assume (302 ∷ [])) refl (refl, (refl, (refl, (refl, (refl, (refl, (refl, (refl, (refl, (refl, (refl, (refl, tt)))))))))))) refl)
     (λ x e. e) done_none h k
 
 guard_dropped : (goal : Tally → Type 0) (t : Tally) (plain : List (List ℕ)) (x y : ℕ) (known : List (List ℕ)) (n serial : ℕ) (verdict : Verdict) (more : List Call) (es : List Entry)
-    → Ahead (at (held plain (pair x ∷ pair y ∷ [])) [] known (ended n verdict) serial) (call.DropGuard 151 ∷ more) es
+    → Ahead (at (held plain (group x ∷ group y ∷ [])) [] known (ended n verdict) serial) (call.DropGuard 151 ∷ more) es
     → ((rest : List Entry) → Ahead (at (between true plain) [] (without_var 151 known) no_solve serial) more rest → Comes goal t rest) → Comes goal t es
-unfolding after without without_pairs
+unfolding after without without_groups
 guard_dropped goal t plain x y known n serial verdict more es h k =
-    let s = at (held plain (pair x ∷ pair y ∷ [])) [] known (ended n verdict) serial in
+    let s = at (held plain (group x ∷ group y ∷ [])) [] known (ended n verdict) serial in
     take goal t s (call.DropGuard 151) more es reply.Done refl
     (accepts s (call.DropGuard 151) refl (refl, (refl, (refl, (refl, (refl, (refl, (refl, (refl, (refl, (refl, (refl, (refl, tt)))))))))))) refl)
     (λ x e. e) done_none h k
@@ -103,7 +103,7 @@ not_both values x a b =
     absurd cc
 
 -- no values satisfy a round
-round_fails : (plain : List (List ℕ)) (x : ℕ) (values : List Bool) → Satisfies values (force (held plain (pair (2 * x) ∷ pair (2 * x + 1) ∷ [])) (302 ∷ [])) → ⊥
+round_fails : (plain : List (List ℕ)) (x : ℕ) (values : List Bool) → Satisfies values (force (held plain (group (2 * x) ∷ group (2 * x + 1) ∷ [])) (302 ∷ [])) → ⊥
 unfolding force
 round_fails plain x values h =
     let P : List ℕ → Type 0 = λ c. clause_true values c ≡ true in
@@ -113,7 +113,7 @@ round_fails plain x values h =
     not_both values x (or_false (true_in values (2 * x)) first) (or_false (true_in values (2 * x + 1)) second)
 
 -- a round's solve adds nothing to the count of models
-round_counted : (plain : List (List ℕ)) (x v n a b : ℕ) (verdict : Verdict) → b ≤ 100000 → IsFound (held plain (pair (2 * x) ∷ pair (2 * x + 1) ∷ [])) (302 ∷ []) verdict
+round_counted : (plain : List (List ℕ)) (x v n a b : ℕ) (verdict : Verdict) → b ≤ 100000 → IsFound (held plain (group (2 * x) ∷ group (2 * x + 1) ∷ [])) (302 ∷ []) verdict
     → (c : ℕ) × (c ≤ b + 1) × (counted (tally v n a b) verdict ≡ tally v n a c)
 round_counted plain x v n a b (Sat values) low h = absurd (round_fails plain x values h.0)
 round_counted plain x v n a b (Unsat w) low h = (b + 1, omega arith, ap (λ (m : ℕ). tally v n a m) (raised_low b low))
@@ -131,11 +131,11 @@ pub one_round : (goal : Tally → Type 0) (again : Bool) (x v n a b : ℕ) (plai
     → ((c : ℕ) (known' : List (List ℕ)) (rest : List Entry) → c ≤ b + 1 → Ahead (at (between true plain) [] known' no_solve (serial + 1)) more rest → Comes goal (tally v n a c) rest) → Comes goal (tally v n a b) es
 one_round goal again x v n a b plain known solve serial more es low high few calm s_low b_low h k =
     let t = tally v n a b in
-    guard_made goal again t plain known solve serial (call.Under 151 (2 * x ∷ []) ∷ call.Under 151 ((2 * x + 1) ∷ []) ∷ call.Assume (302 ∷ []) ∷ call.Solve 4294967295 ∷ call.Wait ∷ call.DropGuard 151 ∷ more) es calm h (λ r1 h1.
-    under_taken goal t (2 * x) plain [] known serial (call.Under 151 ((2 * x + 1) ∷ []) ∷ call.Assume (302 ∷ []) ∷ call.Solve 4294967295 ∷ call.Wait ∷ call.DropGuard 151 ∷ more) r1 (positive_within x low high) few (omega arith) (omega arith) h1 (λ r2 h2.
-    under_taken goal t (2 * x + 1) plain (pair (2 * x) ∷ []) known serial (call.Assume (302 ∷ []) ∷ call.Solve 4294967295 ∷ call.Wait ∷ call.DropGuard 151 ∷ more) r2 (negative_within x low high) few (omega arith) (omega arith) h2 (λ r3 h3.
-    assumed goal t plain (pair (2 * x) ∷ pair (2 * x + 1) ∷ []) known serial (call.Solve 4294967295 ∷ call.Wait ∷ call.DropGuard 151 ∷ more) r3 h3 (λ r4 h4.
-    solved goal t (held plain (pair (2 * x) ∷ pair (2 * x + 1) ∷ [])) (302 ∷ []) known no_solve serial (call.DropGuard 151 ∷ more) r4 tt s_low h4 (λ known' verdict r5 f h5.
+    guard_made goal again t plain known solve serial (call.Under guarding (2 * x ∷ []) ∷ call.Under guarding ((2 * x + 1) ∷ []) ∷ call.Assume (302 ∷ []) ∷ call.Solve 4294967295 ∷ call.Wait ∷ call.DropGuard 151 ∷ more) es calm h (λ r1 h1.
+    under_taken goal t (2 * x) plain [] known serial (call.Under guarding ((2 * x + 1) ∷ []) ∷ call.Assume (302 ∷ []) ∷ call.Solve 4294967295 ∷ call.Wait ∷ call.DropGuard 151 ∷ more) r1 (positive_within x low high) few (omega arith) (omega arith) h1 (λ r2 h2.
+    under_taken goal t (2 * x + 1) plain (group (2 * x) ∷ []) known serial (call.Assume (302 ∷ []) ∷ call.Solve 4294967295 ∷ call.Wait ∷ call.DropGuard 151 ∷ more) r2 (negative_within x low high) few (omega arith) (omega arith) h2 (λ r3 h3.
+    assumed goal t plain (group (2 * x) ∷ group (2 * x + 1) ∷ []) known serial (call.Solve 4294967295 ∷ call.Wait ∷ call.DropGuard 151 ∷ more) r3 h3 (λ r4 h4.
+    solved goal t (held plain (group (2 * x) ∷ group (2 * x + 1) ∷ [])) (302 ∷ []) known no_solve serial (call.DropGuard 151 ∷ more) r4 tt s_low h4 (λ known' verdict r5 f h5.
     let c = round_counted plain x v n a b verdict b_low f in
     subst (λ (u : Tally). Comes goal u r5) (sym c.2)
     (guard_dropped goal (tally v n a c.0) plain (2 * x) (2 * x + 1) known' (serial + 1) (serial + 1) verdict more r5 h5 (λ r6 h6. k c.0 (without_var 151 known') r6 c.1 h6)))))))

@@ -9,7 +9,7 @@ use Rattle.std.proofs.lemmas.Bool.Decides.{eqb_tells, nat_tests}
 use Rattle.std.proofs.lemmas.Fmt.{decimal_nonempty, digits_decimal, length-decimal-le}
 use Rattle.std.proofs.lemmas.Str.Parse.{IsNumeralModel, numerals_by_fold}
 use Rattle.std.proofs.lemmas.List.Elements.{All-from_recursion}
-use Rattle.gi_lit.specs.Literals.{number_of}
+use Rattle.gi_lit.specs.Literals.{max_var, number_of}
 use Rattle.gi_text.specs.Numbers.{magnitude, read_on}
 use Rattle.gi_text.specs.Numbers as numbers
 use Rattle.gi_text.specs.Words.{is_white, words_from}
@@ -75,7 +75,7 @@ IsSmall l = (1 ≤ l / 2) × (l / 2 ≤ 1000)
 spells_positive : (m : ℕ) → suc m ≤ 1000 → Spells (2 * suc m) (decimal (suc m))
 spells_positive m h =
     let read : numbers.number_of (decimal (suc m)) ≡ Some (pos (suc m)) = number-decimal (suc m) (omega arith) in
-    record { word = decimal_word (suc m) h; not_zero = rw read refl; literal = rw (read, le-leb 1 (suc m) (omega arith), le-leb (suc m) 1048576 (omega arith)) refl }
+    record { word = decimal_word (suc m) h; not_zero = rw read refl; literal = rw (read, le-leb 1 (suc m) (omega arith), le-leb (suc m) max_var (omega arith)) refl }
 
 spells_negative : (m : ℕ) → suc m ≤ 1000 → Spells (2 * suc m + 1) (45 ∷ decimal (suc m))
 spells_negative m h =
@@ -84,7 +84,7 @@ spells_negative m h =
     record {
       word = record { bytes = d.bytes; some = omega arith; few = omega (arith, length-decimal-le 20 (suc m) (lit< tt) (omega arith) (omega arith)) };
       not_zero = rw read refl;
-      literal = rw (read, le-leb 1 (suc m) (omega arith), le-leb (suc m) 1048576 (omega arith)) refl;
+      literal = rw (read, le-leb 1 (suc m) (omega arith), le-leb (suc m) max_var (omega arith)) refl;
     }
 
 -- the spelling of a literal

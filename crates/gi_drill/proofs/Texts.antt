@@ -11,7 +11,7 @@ use Rattle.gi_model.specs.declared.calls.Call.{Call}
 use Rattle.gi_model.specs.declared.calls.Call.TheVariants.{Vars, Add, NewGuard, Under, DropGuard, Assume, Solve, Wait}
 use Rattle.gi_wire.specs.Literals.{list_text}
 use Rattle.gi_drill.specs.Instance.{clauses}
-use Rattle.gi_drill.specs.Script.{call_text, line_text, lines_text, round, rounds, script, script_text, variable_of, ending}
+use Rattle.gi_drill.specs.Script.{call_text, guarding, line_text, lines_text, round, rounds, script, script_text, variable_of, ending}
 
 pub decimal_0 : decimal 0 ≡ codes "0"
 unfolding digits
@@ -26,7 +26,7 @@ unfolding digits
 decimal_151 = refl
 
 -- the text of a clause under the guard
-pub under_text : (front c : List ℕ) → ((front ++ codes "under 151 ") ++ list_text c) ++ 10 ∷ [] ≡ front ++ line_text (Under 151 c)
+pub under_text : (front c : List ℕ) → ((front ++ codes "under 151 ") ++ list_text c) ++ 10 ∷ [] ≡ front ++ line_text (Under guarding c)
 unfolding call_text
 under_text front c = rw decimal_151 (append_assoc (front ++ codes "under 151 ") (list_text c) (10 ∷ []) ∙ append_assoc front (codes "under 151 ") (list_text c ++ 10 ∷ []))
 
@@ -42,11 +42,11 @@ closing_text = refl
 four : (front a b c d : List ℕ) → (((front ++ a) ++ b) ++ c) ++ d ≡ front ++ (a ++ (b ++ (c ++ d)))
 four front a b c d = append_assoc ((front ++ a) ++ b) c d ∙ append_assoc (front ++ a) b (c ++ d) ∙ append_assoc front a (b ++ (c ++ d))
 
-pub round_text : (front : List ℕ) (x : ℕ) → (((front ++ (codes "guard" ++ 10 ∷ [])) ++ line_text (Under 151 (2 * x ∷ []))) ++ line_text (Under 151 ((2 * x + 1) ∷ []))) ++ (codes "assume 151 0" ++ (10 ∷ (codes "solve" ++ (10 ∷ (codes "wait" ++ (10 ∷ (codes "drop 151" ++ 10 ∷ []))))))) ≡ front ++ lines_text (round x)
+pub round_text : (front : List ℕ) (x : ℕ) → (((front ++ (codes "guard" ++ 10 ∷ [])) ++ line_text (Under guarding (2 * x ∷ []))) ++ line_text (Under guarding ((2 * x + 1) ∷ []))) ++ (codes "assume 151 0" ++ (10 ∷ (codes "solve" ++ (10 ∷ (codes "wait" ++ (10 ∷ (codes "drop 151" ++ 10 ∷ []))))))) ≡ front ++ lines_text (round x)
 round_text front x =
-    ap (λ t. (((front ++ t) ++ line_text (Under 151 (2 * x ∷ []))) ++ line_text (Under 151 ((2 * x + 1) ∷ []))) ++ (codes "assume 151 0" ++ (10 ∷ (codes "solve" ++ (10 ∷ (codes "wait" ++ (10 ∷ (codes "drop 151" ++ 10 ∷ [])))))))) (sym guard_text)
-    ∙ ap (λ t. (((front ++ line_text NewGuard) ++ line_text (Under 151 (2 * x ∷ []))) ++ line_text (Under 151 ((2 * x + 1) ∷ []))) ++ t) (sym closing_text)
-    ∙ four front (line_text NewGuard) (line_text (Under 151 (2 * x ∷ []))) (line_text (Under 151 ((2 * x + 1) ∷ []))) (lines_text (Assume (302 ∷ []) ∷ Solve 4294967295 ∷ Wait ∷ DropGuard 151 ∷ []))
+    ap (λ t. (((front ++ t) ++ line_text (Under guarding (2 * x ∷ []))) ++ line_text (Under guarding ((2 * x + 1) ∷ []))) ++ (codes "assume 151 0" ++ (10 ∷ (codes "solve" ++ (10 ∷ (codes "wait" ++ (10 ∷ (codes "drop 151" ++ 10 ∷ [])))))))) (sym guard_text)
+    ∙ ap (λ t. (((front ++ line_text NewGuard) ++ line_text (Under guarding (2 * x ∷ []))) ++ line_text (Under guarding ((2 * x + 1) ∷ []))) ++ t) (sym closing_text)
+    ∙ four front (line_text NewGuard) (line_text (Under guarding (2 * x ∷ []))) (line_text (Under guarding ((2 * x + 1) ∷ []))) (lines_text (Assume (302 ∷ []) ∷ Solve 4294967295 ∷ Wait ∷ DropGuard 151 ∷ []))
 
 -- one clause more
 pub adds_more : (f : ℕ → List ℕ) (i : ℕ) → lines_text (map Add (map f (range_with_len 0 (i + 1)))) ≡ lines_text (map Add (map f (range_with_len 0 i))) ++ line_text (Add (f i))
@@ -103,11 +103,11 @@ abbrev pub closing : List ℕ
 closing = codes "assume 151 0" ++ (10 ∷ (codes "solve" ++ (10 ∷ (codes "wait" ++ (10 ∷ (codes "drop 151" ++ 10 ∷ []))))))
 
 -- the lines of a round, one after another
-pub round_chain : (o p q r s : List ℕ) (v l m : ℕ) → l ≡ 2 * v → m ≡ 2 * v + 1 → p ≡ o ++ (codes "guard" ++ 10 ∷ []) → q ≡ p ++ line_text (Under 151 (l ∷ [])) → r ≡ q ++ line_text (Under 151 (m ∷ [])) → s ≡ r ++ closing → s ≡ o ++ lines_text (round v)
+pub round_chain : (o p q r s : List ℕ) (v l m : ℕ) → l ≡ 2 * v → m ≡ 2 * v + 1 → p ≡ o ++ (codes "guard" ++ 10 ∷ []) → q ≡ p ++ line_text (Under guarding (l ∷ [])) → r ≡ q ++ line_text (Under guarding (m ∷ [])) → s ≡ r ++ closing → s ≡ o ++ lines_text (round v)
 round_chain o p q r s v l m el em ep eq er es =
-    es ∙ ap (λ t. t ++ closing) (er ∙ ap (λ t. t ++ line_text (Under 151 (m ∷ []))) (eq ∙ ap (λ t. t ++ line_text (Under 151 (l ∷ []))) ep))
-    ∙ ap (λ (k : ℕ). (((o ++ (codes "guard" ++ 10 ∷ [])) ++ line_text (Under 151 (k ∷ []))) ++ line_text (Under 151 (m ∷ []))) ++ closing) el
-    ∙ ap (λ (k : ℕ). (((o ++ (codes "guard" ++ 10 ∷ [])) ++ line_text (Under 151 (2 * v ∷ []))) ++ line_text (Under 151 (k ∷ []))) ++ closing) em
+    es ∙ ap (λ t. t ++ closing) (er ∙ ap (λ t. t ++ line_text (Under guarding (m ∷ []))) (eq ∙ ap (λ t. t ++ line_text (Under guarding (l ∷ []))) ep))
+    ∙ ap (λ (k : ℕ). (((o ++ (codes "guard" ++ 10 ∷ [])) ++ line_text (Under guarding (k ∷ []))) ++ line_text (Under guarding (m ∷ []))) ++ closing) el
+    ∙ ap (λ (k : ℕ). (((o ++ (codes "guard" ++ 10 ∷ [])) ++ line_text (Under guarding (2 * v ∷ []))) ++ line_text (Under guarding (k ∷ []))) ++ closing) em
     ∙ round_text o v
 
 pub rounds_step : (o p q : List ℕ) (i v : ℕ) → p ≡ o ++ lines_text (flat_map round (map variable_of (range_with_len 0 i))) → v ≡ variable_of i → q ≡ p ++ lines_text (round v) → q ≡ o ++ lines_text (flat_map round (map variable_of (range_with_len 0 (i + 1))))

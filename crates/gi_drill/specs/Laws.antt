@@ -53,7 +53,7 @@ pub record Plays (rounds : ℕ) (front back : List Entry) : Type 0 where
 -- a session that was given the script, all of it or its beginning, and ended by bye, has its calls on a machine that stands
 abbrev pub SessionsPlay : Type 0
 SessionsPlay = (n : ℕ) (ended : Bool) (bytes rest : List ℕ) (own : List Entry) (left : ℕ) (out : List ℕ) → bytes ++ rest ≡ script_text n → (ended ≡ true → rest ≡ [])
-    → Served bytes ended own left out how.Bye → (map (λ e. e.call) own ≡ script n) × AllByRecursion (λ e. IsLively e.reply) own
+    → Served bytes ended own (left ≡ 0) out how.Bye → (map (λ e. e.call) own ≡ script n) × AllByRecursion (λ e. IsLively e.reply) own
 
 -- where all entries are of one caller, its calls are the entries without work
 abbrev pub OwnCallsAreAll : Type 0

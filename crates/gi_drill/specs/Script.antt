@@ -9,9 +9,13 @@ use Rattle.gi_wire.specs.declared.reader.Asked.TheVariants as asked
 use Rattle.gi_wire.specs.declared.reader.Item.{Item}
 use Rattle.gi_drill.specs.Instance.{clauses}
 
+-- the guard of each round
+abbrev pub guarding : List ℕ
+guarding = 151 ∷ []
+
 -- a variable and its negation under a guard, which is assumed for a solve and then dropped
 abbrev pub round : ℕ → List Call
-round x = NewGuard ∷ Under 151 (2 * x ∷ []) ∷ Under 151 ((2 * x + 1) ∷ []) ∷ Assume (302 ∷ []) ∷ Solve 4294967295 ∷ Wait ∷ DropGuard 151 ∷ []
+round x = NewGuard ∷ Under guarding (2 * x ∷ []) ∷ Under guarding ((2 * x + 1) ∷ []) ∷ Assume (302 ∷ []) ∷ Solve 4294967295 ∷ Wait ∷ DropGuard 151 ∷ []
 
 -- the variable of a round, counted from 0
 abbrev pub variable_of : ℕ → ℕ
@@ -33,7 +37,7 @@ unfoldable pub call_text : Call → List ℕ
 call_text (Vars k) = codes "vars " ++ decimal k
 call_text (Add c) = codes "add " ++ list_text c
 call_text NewGuard = codes "guard"
-call_text (Under g c) = codes "under " ++ (decimal g ++ (codes " " ++ list_text c))
+call_text (Under (g ∷ []) c) = codes "under " ++ (decimal g ++ (codes " " ++ list_text c))
 call_text (Assume ls) = codes "assume " ++ list_text ls
 call_text (Solve budget) = codes "solve"
 call_text Wait = codes "wait"

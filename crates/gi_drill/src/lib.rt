@@ -4,14 +4,12 @@
 mod generator;
 mod instance;
 mod laws;
-mod line;
 mod printing;
 mod script;
 mod tally;
 #[cfg(test)]
 mod tests;
 mod text;
-mod writing;
 
 pub use laws::{
     plan_satisfies, script_is_read, script_is_short, script_is_taken, sessions_play, tallies_grow,
@@ -19,4 +17,3 @@ pub use laws::{
 pub use printing::print_tally;
 pub use script::write_script;
 pub use tally::Tally;
-pub use writing::Written;

@@ -3,7 +3,7 @@ ghost use Rattle.std.specs.Prelude.{◌≡◌, ◌++◌, ◌∷◌, [], ◌*◌,
 ghost use Rattle.gi_lit.specs.Literals.{IsVariable};
 ghost use Rattle.gi_model.specs.declared.calls.Call.TheVariants.{Add, Under};
 ghost use Rattle.gi_wire.specs.Literals.{list_text};
-ghost use Rattle.gi_drill.specs.Script.{lines_text, line_text, round};
+ghost use Rattle.gi_drill.specs.Script.{guarding, lines_text, line_text, round};
 
 use gi_lit::{Lit, Var};
 use gi_text::{Bytes, Digits};
@@ -32,7 +32,7 @@ pub(crate) fn put_add(out: &mut Bytes, clause: &[Lit]) -> Result<(), AllocError>
 
 // Adds the line of a clause of one literal under the guard.
 fn put_under(out: &mut Bytes, literal: Lit) -> Result<(), AllocError>
-    ensures { OnOk result (out.new ≡ out.old ++ line_text (Under 151 (literal ∷ []))) }
+    ensures { OnOk result (out.new ≡ out.old ++ line_text (Under guarding (literal ∷ []))) }
 {
     out.extend(b"under 151 ")?;
     put_literals(out, &[literal])?;

@@ -1,6 +1,7 @@
 -- One call more.
 use Rattle.std.proofs.Common.{◌≡◌, ℕ, ◌+◌, ◌^◌, ◌<◌, ◌≤◌, ◌⊎◌, inl, inr, true, List, [], ◌∷◌, ◌++◌, Option, Some, None, refl, sym, subst, arith}
 use Rattle.std.proofs.lemmas.List.{append-nil}
+use Rattle.gi_lit.specs.Literals.{max_var}
 use Rattle.gi_model.specs.Effects.{after, edited, trimmed}
 use Rattle.gi_model.specs.History.{Allows, Answers, Replied}
 use Rattle.gi_model.specs.Refusals.{refuses}
@@ -37,7 +38,7 @@ module _ (b : ℕ) (t : Told) (news known : List (List ℕ)) (v : Solving) (n : 
   abbrev s : State
   s = state_of t known v n
 
-  vars_advance : (k : ℕ) (r : Reply) → IsQuiet v → k ≤ 1048576 → Allows s (call.Vars k) r → Advances b Resting t news (n + 1) s (call.Vars k) r
+  vars_advance : (k : ℕ) (r : Reply) → IsQuiet v → k ≤ max_var → Allows s (call.Vars k) r → Advances b Resting t news (n + 1) s (call.Vars k) r
   unfolding after
   vars_advance k r q le a = elim (replied s (call.Vars k) r (vars_pass t known n v k q le) a) [
     | inr none ↦ inl none
@@ -61,7 +62,7 @@ module _ (b : ℕ) (t : Told) (news known : List (List ℕ)) (v : Solving) (n : 
         (refl, record { known = known; solve = edited v; serial = n; is = refl; at = edited_rests b (told_on t (call.Assume ls)) news known v q; few = omega arith }))
   ]
 
-  started_at : IsAt b Going (told_on t (call.Solve b)) [] (trimmed known) (running (record { serial = n + 1; assumed = scope_assumed [] ++ t.pending; budget = b; spent = 0 }))
+  started_at : IsAt b Going (told_on t (call.Solve b)) [] (trimmed known) (running (record { serial = n + 1; assumed = scope_assumed [] ++ t.pending; budget = b; spent = 0; slices = 0 }))
   unfolding scope_assumed
   started_at = record {
     low = omega arith;
@@ -76,7 +77,7 @@ module _ (b : ℕ) (t : Told) (news known : List (List ℕ)) (v : Solving) (n : 
   solve_advances r q lt a = elim (replied s (call.Solve b) r (solve_passes t known n v b q lt) a) [
     | inr none ↦ inl none
     | inl is ↦ inr (subst (λ (x : Reply). (is_proper (call.Solve b) x ≡ true) × Mirror b Going (told_on t (call.Solve b)) (news_on news x) (n + 1) (after s (call.Solve b) x)) (sym is)
-        (refl, record { known = trimmed known; solve = running (record { serial = n + 1; assumed = scope_assumed [] ++ t.pending; budget = b; spent = 0 }); serial = n + 1; is = refl; at = started_at; few = omega arith }))
+        (refl, record { known = trimmed known; solve = running (record { serial = n + 1; assumed = scope_assumed [] ++ t.pending; budget = b; spent = 0; slices = 0 }); serial = n + 1; is = refl; at = started_at; few = omega arith }))
   ]
 
 -- a wait comes only once the solve has ended

@@ -1,11 +1,12 @@
 -- A machine's state, by what it was told.
-use Rattle.std.proofs.Common.{◌≡◌, ℕ, ◌+◌, ◌/◌, ◌^◌, ◌<◌, ◌≤◌, Bool, true, false, not, ◌||◌, nat_le, List, [], ◌∷◌, ◌++◌, length, None, refl, arith}
+use Rattle.std.proofs.Common.{◌≡◌, ℕ, ◌+◌, ◌/◌, ◌<◌, ◌≤◌, Bool, true, false, not, ◌||◌, nat_le, List, [], ◌∷◌, ◌++◌, length, None, refl, arith}
 use Rattle.std.specs.List.{AllByRecursion, list_any, sum_by}
 use Rattle.std.proofs.lemmas.Bool.{le-leb, le-ltb, lt-leb}
 use Rattle.gi_lit.specs.Truth.{Fail, MakesTrue, Satisfies}
 use Rattle.gi_lit.specs.Problem.{is_guard_lit, is_usable, lit_count, top}
 use Rattle.gi_lit.specs.Learnt.{AreFresh}
-use Rattle.gi_model.specs.Limits.{most_clauses, most_lits, most_pending, most_solves, most_vars}
+use Rattle.gi_model.specs.Limits.{most_clauses, most_lits, most_pending, most_solves}
+use Rattle.gi_lit.specs.Literals.{max_var}
 use Rattle.gi_model.specs.State.{State, Run, Solve as Solving, no_solve, running, paused, ended, alive}
 use Rattle.gi_model.specs.Refusals.{refuses, some_unusable}
 use Rattle.gi_model.specs.declared.calls.Call.TheVariants as call
@@ -68,13 +69,13 @@ pub record Mirror (b : ℕ) (stage : Stage) (t : Told) (news : List (List ℕ)) 
 
 -- literals of variables within the limit
 abbrev pub AreLits : List ℕ → Type 0
-AreLits ls = AllByRecursion (λ l. (1 ≤ l / 2) × (l / 2 ≤ 1048576)) ls
+AreLits ls = AllByRecursion (λ l. (1 ≤ l / 2) × (l / 2 ≤ max_var)) ls
 
 -- what a machine that was told so may be asked
 abbrev pub MayBe : Told → Step → Type 0
-MayBe t (Vars n) = n ≤ 1048576
-MayBe t (Clause c) = AreLits c × (length t.clauses + 1 ≤ 4194304) × (sum_by length t.clauses + length c ≤ 67108864)
-MayBe t (Assume ls) = AreLits ls × (length t.pending + length ls ≤ 1048576)
+MayBe t (Vars n) = n ≤ max_var
+MayBe t (Clause c) = AreLits c × (length t.clauses + 1 ≤ most_clauses) × (sum_by length t.clauses + length c ≤ most_lits)
+MayBe t (Assume ls) = AreLits ls × (length t.pending + length ls ≤ most_pending)
 MayBe t Solve = Unit {0}
 
 -- and step by step
@@ -93,7 +94,7 @@ all_usable : (t : Told) (ls : List ℕ) → AreLits ls → some_unusable (proble
 all_usable t [] h = refl
 all_usable t (l ∷ ls) h = rw (usable t l h.0.0) (all_usable t ls h.1)
 
-top_within : (ls : List ℕ) → AreLits ls → top ls ≤ 1048576
+top_within : (ls : List ℕ) → AreLits ls → top ls ≤ max_var
 unfolding top
 top_within [] h = omega arith
 top_within (l ∷ ls) h = omega (arith, top_within ls h.1, h.0.1)
@@ -112,17 +113,17 @@ quiet b t news known (running r) h = h
 quiet b t news known (paused r) h = h
 
 module _ (t : Told) (known : List (List ℕ)) (n : ℕ) where
-  pub vars_pass : (v : Solving) (k : ℕ) → IsQuiet v → k ≤ 1048576 → refuses (state_of t known v n) (call.Vars k) ≡ None
+  pub vars_pass : (v : Solving) (k : ℕ) → IsQuiet v → k ≤ max_var → refuses (state_of t known v n) (call.Vars k) ≡ None
   unfolding refuses
-  vars_pass no_solve k q le = rw (le-ltb most_vars k le) refl
-  vars_pass (ended m w) k q le = rw (le-ltb most_vars k le) refl
+  vars_pass no_solve k q le = rw (le-ltb max_var k le) refl
+  vars_pass (ended m w) k q le = rw (le-ltb max_var k le) refl
   vars_pass (running r) k q le = absurd q
   vars_pass (paused r) k q le = absurd q
 
   pub add_passes : (v : Solving) (c : List ℕ) → IsQuiet v → MayBe t (Clause c) → refuses (state_of t known v n) (call.Add c) ≡ None
   unfolding refuses lit_count
-  add_passes no_solve c q h = rw (all_usable t c h.0, le-ltb most_vars (top c) (top_within c h.0), le-ltb most_clauses (length t.clauses + 0 + 1) (omega (arith, h.1)), le-ltb most_lits (sum_by length t.clauses + 0 + length c) (omega (arith, h.2))) refl
-  add_passes (ended m w) c q h = rw (all_usable t c h.0, le-ltb most_vars (top c) (top_within c h.0), le-ltb most_clauses (length t.clauses + 0 + 1) (omega (arith, h.1)), le-ltb most_lits (sum_by length t.clauses + 0 + length c) (omega (arith, h.2))) refl
+  add_passes no_solve c q h = rw (all_usable t c h.0, le-ltb max_var (top c) (top_within c h.0), le-ltb most_clauses (length t.clauses + 0 + 1) (omega (arith, h.1)), le-ltb most_lits (sum_by length t.clauses + 0 + length c) (omega (arith, h.2))) refl
+  add_passes (ended m w) c q h = rw (all_usable t c h.0, le-ltb max_var (top c) (top_within c h.0), le-ltb most_clauses (length t.clauses + 0 + 1) (omega (arith, h.1)), le-ltb most_lits (sum_by length t.clauses + 0 + length c) (omega (arith, h.2))) refl
   add_passes (running r) c q h = absurd q
   add_passes (paused r) c q h = absurd q
 
@@ -132,12 +133,12 @@ module _ (t : Told) (known : List (List ℕ)) (n : ℕ) where
 
   pub assume_passes : (v : Solving) (ls : List ℕ) → IsQuiet v → MayBe t (Assume ls) → refuses (state_of t known v n) (call.Assume ls) ≡ None
   unfolding refuses
-  assume_passes no_solve ls q h = rw (good_lits ls h.0, le-ltb most_vars (top ls) (top_within ls h.0), le-ltb most_pending (length t.pending + length ls) h.1) refl
-  assume_passes (ended m w) ls q h = rw (good_lits ls h.0, le-ltb most_vars (top ls) (top_within ls h.0), le-ltb most_pending (length t.pending + length ls) h.1) refl
+  assume_passes no_solve ls q h = rw (good_lits ls h.0, le-ltb max_var (top ls) (top_within ls h.0), le-ltb most_pending (length t.pending + length ls) h.1) refl
+  assume_passes (ended m w) ls q h = rw (good_lits ls h.0, le-ltb max_var (top ls) (top_within ls h.0), le-ltb most_pending (length t.pending + length ls) h.1) refl
   assume_passes (running r) ls q h = absurd q
   assume_passes (paused r) ls q h = absurd q
 
-  pub solve_passes : (v : Solving) (b : ℕ) → IsQuiet v → n < 2 ^ 56 → refuses (state_of t known v n) (call.Solve b) ≡ None
+  pub solve_passes : (v : Solving) (b : ℕ) → IsQuiet v → n < most_solves → refuses (state_of t known v n) (call.Solve b) ≡ None
   unfolding refuses
   solve_passes no_solve b q lt = rw (lt-leb most_solves n lt) refl
   solve_passes (ended m w) b q lt = rw (lt-leb most_solves n lt) refl

@@ -3,6 +3,7 @@ use Rattle.std.proofs.Common.{◌≡◌, ℕ, ◌+◌, ◌^◌, ◌≤◌, ◌�
 use Rattle.std.specs.List.{AllByRecursion, flat_map, sum_by}
 use Rattle.std.proofs.lemmas.List.Elements.{recursion_from_All}
 use Rattle.std.proofs.lemmas.List.Sums.{sum_by-append}
+use Rattle.gi_lit.specs.Literals.{max_var}
 use Rattle.gi_dimacs.specs.Content.{clauses_in, literals_in}
 use Rattle.gi_dimacs.specs.Texts.{IsItemOf, IsLiteralOf}
 use Rattle.gi_dimacs.specs.declared.items.Item.{Item}
@@ -10,6 +11,7 @@ use Rattle.gi_dimacs.specs.declared.items.Item.TheVariants as items
 use Rattle.gi_model.specs.Effects.{after}
 use Rattle.gi_model.specs.History.{Allows, Entry, IsLegalFrom, after_all}
 use Rattle.gi_model.specs.State.{State, no_solve, opening}
+use Rattle.gi_model.specs.Limits.{most_clauses, most_lits}
 use Rattle.gi_model.specs.declared.calls.Call.{Call}
 use Rattle.gi_model.specs.declared.calls.Call.TheVariants as call
 use Rattle.gi_model.specs.declared.replies.Reply.TheVariants as reply
@@ -130,11 +132,11 @@ reaches b (e ∷ before) rest t news most s here = elim (entry_goes b t news mos
 ]
 
 -- what a good file asks is allowed
-good_lits : (vars : ℕ) (ls : List ℕ) → vars ≤ 1048576 → AllByRecursion (IsLiteralOf vars) ls → AreLits ls
+good_lits : (vars : ℕ) (ls : List ℕ) → vars ≤ max_var → AllByRecursion (IsLiteralOf vars) ls → AreLits ls
 good_lits vars [] le h = tt
 good_lits vars (l ∷ ls) le h = ((h.0.0, omega (arith, h.0.1)), good_lits vars ls le h.1)
 
-module _ (b vars : ℕ) (small : vars ≤ 1048576) where
+module _ (b vars : ℕ) (small : vars ≤ max_var) where
   abbrev clause_more : Told → List ℕ → Told
   clause_more t c = told_on t (call.Add c)
 
@@ -144,7 +146,7 @@ module _ (b vars : ℕ) (small : vars ≤ 1048576) where
   literals_more : (t : Told) (c : List ℕ) → sum_by length (clause_more t c).clauses ≡ sum_by length t.clauses + length c
   literals_more t c = sum_by-append length t.clauses (c ∷ []) ∙ (let e : sum_by length t.clauses + (0 + length c) ≡ sum_by length t.clauses + length c = omega arith in e)
 
-  items_allowed : (its : List Item) (t : Told) → length t.pending ≡ 0 → AllByRecursion (IsItemOf vars) its → length t.clauses + clauses_in its ≤ 4194304 → sum_by length t.clauses + literals_in its ≤ 67108864 → Allowed b t (flat_map item_steps its)
+  items_allowed : (its : List Item) (t : Told) → length t.pending ≡ 0 → AllByRecursion (IsItemOf vars) its → length t.clauses + clauses_in its ≤ most_clauses → sum_by length t.clauses + literals_in its ≤ most_lits → Allowed b t (flat_map item_steps its)
   unfolding Allowed
   items_allowed [] t none good clauses literals = tt
   items_allowed (items.Clause c ∷ its) t none good clauses literals = (
@@ -156,7 +158,7 @@ module _ (b vars : ℕ) (small : vars ≤ 1048576) where
     (tt, items_allowed its (told_on (told_on t (call.Assume ls)) (call.Solve b)) refl good.1 clauses literals),
   )
 
-  clauses_allowed : (cs : List (List ℕ)) (t : Told) → AllByRecursion (IsItemOf vars) (map items.Clause cs) → length t.clauses + clauses_in (map items.Clause cs) ≤ 4194304 → sum_by length t.clauses + literals_in (map items.Clause cs) ≤ 67108864 → Allowed b t (map Clause cs ++ Solve ∷ [])
+  clauses_allowed : (cs : List (List ℕ)) (t : Told) → AllByRecursion (IsItemOf vars) (map items.Clause cs) → length t.clauses + clauses_in (map items.Clause cs) ≤ most_clauses → sum_by length t.clauses + literals_in (map items.Clause cs) ≤ most_lits → Allowed b t (map Clause cs ++ Solve ∷ [])
   unfolding Allowed
   clauses_allowed [] t good clauses literals = (tt, tt)
   clauses_allowed (c ∷ cs) t good clauses literals = (

@@ -1,5 +1,5 @@
 -- A whole file, from its bytes to the last answer.
-use Rattle.std.proofs.Common.{ℕ, List, Result, Ok, Err, refl, inl, inr}
+use Rattle.std.proofs.Common.{ℕ, List, Result, Ok, Err, refl, inl, inr, subst, sym}
 use Rattle.gi_outside.specs.World.{World}
 use Rattle.gi_dimacs.specs.Answers.{IsFault}
 use Rattle.gi_dimacs.specs.declared.cnf.Cnf.{Cnf}
@@ -7,7 +7,6 @@ use Rattle.gi_dimacs.specs.declared.cnf.Icnf.{Icnf}
 use Rattle.gi_dimacs.specs.declared.fault.CnfFault.{CnfFault}
 use Rattle.gi_files.specs.Commands.{format_of}
 use Rattle.gi_files.specs.Input.{IsAll, ReadsCnf, ReadsIcnf}
-use Rattle.gi_files.specs.Texts.{refused_text}
 use Rattle.gi_files.specs.declared.form.Form.{Form}
 use Rattle.gi_files.specs.declared.form.Form.TheVariants as forms
 use Rattle.gi_files.specs.declared.reading.CnfInput.TheVariants as cnf
@@ -36,8 +35,9 @@ module _ (form : Form) (budget : ℕ) (old mid new : World) (h k : Standing) (by
 
   -- a refused one
   ends_refused : (result : Solved) (fault : CnfFault) → IsAll old mid bytes → IsFault (format_of form) fault bytes → PrintsRefusal result fault mid new → Ends result form budget old mid new h h bytes
-  ends_refused solved.Refused fault all is wrote = (refused_text fault, record { all = all; refuses = (fault, is, refl); same = refl }, wrote)
-  ends_refused solved.WriteFault fault all is cut = inl (refused_text fault, record { all = all; refuses = (fault, is, refl); same = refl }, cut)
+  ends_refused (solved.Refused told) fault all is wrote =
+      subst (λ f. Ends (solved.Refused f) form budget old mid new h h bytes) (sym wrote.0) (record { all = all; faulty = is; same = refl }, wrote.1)
+  ends_refused solved.WriteFault fault all is cut = inl (fault, record { all = all; faulty = is; same = refl }, cut)
   ends_refused solved.Sat fault all is none = absurd none
   ends_refused solved.Unsat fault all is none = absurd none
   ends_refused solved.Unknown fault all is none = absurd none

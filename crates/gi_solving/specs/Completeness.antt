@@ -2,7 +2,10 @@
 use Rattle.std.specs.Prelude.{◌≡◌, ◌≢◌, ℕ, ◌<◌, ◌^◌, List, length, Ok}
 use Rattle.gi_outside.specs.Link.{Rose}
 use Rattle.gi_outside.specs.World.{World, Wrote}
-use Rattle.gi_files.specs.Commands.{Refuses}
+use Rattle.gi_dimacs.specs.Answers.{IsFault}
+use Rattle.gi_dimacs.specs.declared.fault.CnfFault.{CnfFault}
+use Rattle.gi_files.specs.Commands.{format_of}
+use Rattle.gi_files.specs.Texts.{refused_text}
 use Rattle.gi_files.specs.Input.{IsAll}
 use Rattle.gi_files.specs.declared.form.Form.{Form}
 use Rattle.gi_net.specs.Standing.{Standing}
@@ -33,7 +36,7 @@ pub record IsAnswered (result : Solved) (budget : ℕ) (steps : List Step) (v w 
 pub record IsWhole (result : Solved) (form : Form) (budget : ℕ) (old new : World) (before after : Standing) (s : Solves result form budget old new before after) : Type 0 where
   pub all : IsAll old s.mid s.bytes
   pub accepted : (steps : List Step) → HasSteps form s.bytes steps → IsAnswered result budget steps s.mid new before after
-  pub refused : (text : List ℕ) → Refuses form s.bytes text → (result ≡ solved.Refused) × Wrote s.mid new text
+  pub refused : (fault : CnfFault) → IsFault (format_of form) fault s.bytes → (result ≡ solved.Refused fault) × Wrote s.mid new (refused_text fault)
 
 abbrev pub UndisturbedIsWhole : Type 0
 UndisturbedIsWhole = (result : Solved) (form : Form) (budget : ℕ) (old new : World) (before after : Standing) (s : Solves result form budget old new before after)

@@ -2,7 +2,6 @@ pub mod Steps
 pub mod Grown
 pub mod Doing
 pub mod Output
-pub mod Outbox
 pub mod Done
 pub mod Making
 pub mod Showing

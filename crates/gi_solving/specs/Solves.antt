@@ -2,7 +2,8 @@
 use Rattle.std.specs.Prelude.{◌≡◌, ℕ, ◌⊎◌, List, Result, Ok, Err}
 use Rattle.gi_outside.specs.Link.{Rose}
 use Rattle.gi_outside.specs.World.{World, Wrote, WroteCut}
-use Rattle.gi_files.specs.Commands.{Refuses}
+use Rattle.gi_dimacs.specs.Answers.{IsFault}
+use Rattle.gi_files.specs.Commands.{format_of}
 use Rattle.gi_dimacs.specs.declared.fault.CnfFault.{CnfFault}
 use Rattle.gi_files.specs.Texts.{refused_text}
 use Rattle.gi_files.specs.Input.{AreBounded, AreTooMany, Gave, IsAll}
@@ -31,10 +32,10 @@ pub record Stops (by : Stop) (form : Form) (budget : ℕ) (old mid new : World) 
   pub are : HasSteps form bytes steps
   pub begun : IsBegun by budget steps mid new before after
 
--- the bytes are no file of the form, whose refusal is this text; no call was made
-pub record IsRefused (form : Form) (old mid : World) (before after : Standing) (bytes text : List ℕ) : Type 0 where
+-- the bytes are no file of the form, and this is their first fault; no call was made
+pub record IsRefused (form : Form) (old mid : World) (before after : Standing) (bytes : List ℕ) (fault : CnfFault) : Type 0 where
   pub all : IsAll old mid bytes
-  pub refuses : Refuses form bytes text
+  pub faulty : IsFault (format_of form) fault bytes
   pub same : after ≡ before
 
 -- How it ends: the link as it was, as it was when the bytes had come, and as it is.
@@ -42,9 +43,9 @@ abbrev pub Ends : Solved → Form → ℕ → World → World → World → Stan
 Ends solved.Sat form budget old mid new before after bytes = Answers answers.Sat form budget old mid new before after bytes
 Ends solved.Unsat form budget old mid new before after bytes = Answers answers.Unsat form budget old mid new before after bytes
 Ends solved.Unknown form budget old mid new before after bytes = Answers answers.Unknown form budget old mid new before after bytes
-Ends solved.Refused form budget old mid new before after bytes = (text : List ℕ) × IsRefused form old mid before after bytes text × Wrote mid new text
+Ends (solved.Refused fault) form budget old mid new before after bytes = IsRefused form old mid before after bytes fault × Wrote mid new (refused_text fault)
 Ends solved.ReadFault form budget old mid new before after bytes = Rose old.failed_reads mid.failed_reads × (new ≡ mid) × (after ≡ before)
-Ends solved.WriteFault form budget old mid new before after bytes = ((text : List ℕ) × IsRefused form old mid before after bytes text × WroteCut mid new text)
+Ends solved.WriteFault form budget old mid new before after bytes = ((fault : CnfFault) × IsRefused form old mid before after bytes fault × WroteCut mid new (refused_text fault))
     ⊎ Stops stops.WriteFault form budget old mid new before after bytes
 Ends solved.NoMemory form budget old mid new before after bytes = ((new ≡ mid) × (after ≡ before)) ⊎ Stops stops.NoMemory form budget old mid new before after bytes
 Ends solved.TooMuch form budget old mid new before after bytes = (AreTooMany bytes × (new ≡ mid) × (after ≡ before)) ⊎ Stops stops.TooMuch form budget old mid new before after bytes
@@ -71,6 +72,6 @@ solved_of (Err stops.Denied) = solved.Denied
 
 -- a refusal was printed, or cut
 abbrev pub PrintsRefusal : Solved → CnfFault → World → World → Type 0
-PrintsRefusal solved.Refused fault v w = Wrote v w (refused_text fault)
+PrintsRefusal (solved.Refused told) fault v w = (told ≡ fault) × Wrote v w (refused_text fault)
 PrintsRefusal solved.WriteFault fault v w = WroteCut v w (refused_text fault)
 PrintsRefusal other fault v w = ⊥

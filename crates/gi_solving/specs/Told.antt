@@ -48,7 +48,7 @@ told_steps t (step ∷ steps) = told_steps (told_step t step) steps
 
 -- the problem of the variables and clauses
 abbrev pub problem_of : Told → Problem
-problem_of t = record { vars = t.vars; plain = t.clauses; pairs = []; active = []; freed = [] }
+problem_of t = record { vars = t.vars; plain = t.clauses; groups = []; active = []; freed = [] }
 
 -- what the last solve has learnt, after one more reply
 abbrev pub news_on : List (List ℕ) → Reply → List (List ℕ)

@@ -1,4 +1,5 @@
 // How solves end.
+use gi_dimacs::CnfFault;
 
 /// What a solve was answered.
 #[derive(Clone, Copy, Debug, PartialEq, Eq)]
@@ -33,8 +34,8 @@ pub enum Solved {
     Unsat,
     /// All solves were answered, the last one not within its budget; or there was none.
     Unknown,
-    /// The input is no file of the form, and the refusal was written. No call was made.
-    Refused,
+    /// The input is no file of the form: this is its first fault, whose refusal was written. No call was made.
+    Refused(CnfFault),
     /// Memory was wanting: for the input, for a call's entry, or for the machine.
     NoMemory,
     /// A read failed. No call was made.

@@ -4,7 +4,6 @@
 mod answer;
 mod laws;
 mod making;
-mod outbox;
 mod printing;
 mod solving;
 mod steps;

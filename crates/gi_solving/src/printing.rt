@@ -2,26 +2,22 @@
 ghost use Rattle.std.specs.Prelude.{◌≡◌, ◌+◌, ◌*◌, ◌/◌, ◌≤◌, ◌<◌, ◌++◌, ◌∷◌, [], ℕ, List, length, take, drop, decimal};
 ghost use Rattle.std.specs.List.{flat_map};
 ghost use Rattle.std.specs.Fork.{slice_chunk};
-ghost use Rattle.gi_outside.specs.World.{World, Wrote, WroteCut};
+ghost use Rattle.gi_outside.specs.World.{World};
+ghost use Rattle.gi_outside.specs.Outbox.{Stands};
+ghost use Rattle.gi_outside.specs.Sent.{Sends};
 ghost use Rattle.gi_dimacs.specs.Literals.{literal_text};
-ghost use Rattle.gi_files.specs.Written.{MatchWritten};
 ghost use Rattle.gi_solving.specs.Output.{answer_text, line_text, model_text, words_of};
-ghost use Rattle.gi_solving.specs.Outbox.{Stands};
 
 use crate::answer::Answer;
-use crate::outbox::Outbox;
-use gi_files::Written;
 use gi_lit::Lit;
-use gi_outside::Link;
-use gi_text::Digits;
+use gi_outside::{Link, Outbox, Sent};
 
 // How many words a line of a model has, but the last.
 const WORDS: usize = 12;
 
 /// Writes the line of an answer. Takes no memory.
-pub fn print_answer<L: Link>(answer: Answer, user: &mut L) -> Written
-    ensures { MatchWritten result (Wrote (L.state user.old) (L.state user.new) (answer_text answer))
-        (WroteCut (L.state user.old) (L.state user.new) (answer_text answer)) }
+pub fn print_answer<L: Link>(answer: Answer, user: &mut L) -> Sent
+    ensures { Sends result (L.state user.old) (L.state user.new) (answer_text answer) }
 {
     let mut outbox = Outbox::new();
     put_answer(&mut outbox, answer, user);
@@ -40,9 +36,8 @@ fn put_answer<L: Link>(outbox: &mut Outbox, answer: Answer, user: &mut L)
 }
 
 /// Writes the lines of a model. Takes no memory.
-pub fn print_model<L: Link>(literals: &[Lit], user: &mut L) -> Written
-    ensures { MatchWritten result (Wrote (L.state user.old) (L.state user.new) (model_text literals.now))
-        (WroteCut (L.state user.old) (L.state user.new) (model_text literals.now)) }
+pub fn print_model<L: Link>(literals: &[Lit], user: &mut L) -> Sent
+    ensures { Sends result (L.state user.old) (L.state user.new) (model_text literals.now) }
 {
     let mut outbox = Outbox::new();
     put_model(&mut outbox, literals, user);
@@ -101,8 +96,8 @@ fn put_literal<L: Link>(outbox: &mut Outbox, literal: Lit, user: &mut L)
 {
     if literal.code() % 2 == 1 {
         outbox.put(b"-", user);
-        outbox.put(Digits::of(i128::from(literal.code() / 2)).as_slice(), user);
+        outbox.put_number(u64::from(literal.code() / 2), user);
         return;
     }
-    outbox.put(Digits::of(i128::from(literal.code() / 2)).as_slice(), user);
+    outbox.put_number(u64::from(literal.code() / 2), user);
 }

@@ -5,9 +5,9 @@ ghost use Rattle.gi_solving.specs.Solves.{PrintsRefusal, Solves, solved_of};
 use crate::answer::{Answer, Solved, Stop};
 use crate::steps::{solve_cnf, solve_icnf};
 use gi_dimacs::CnfFault;
-use gi_files::{CnfInput, Form, IcnfInput, Written, read_cnf, read_icnf, write_refused};
+use gi_files::{CnfInput, Form, IcnfInput, read_cnf, read_icnf, write_refused};
 use gi_net::Caller;
-use gi_outside::Link;
+use gi_outside::{Link, Sent};
 use std::alloc::Global;
 
 /// Reads a file to its end, makes the calls of its solves, and prints the answer of each before the next is begun.
@@ -94,7 +94,7 @@ fn refuse<L: Link>(fault: CnfFault, user: &mut L) -> Solved
     ensures { PrintsRefusal result fault (L.state user.old) (L.state user.new) }
 {
     match write_refused(fault, user) {
-        Written::Whole => Solved::Refused,
-        Written::Cut => Solved::WriteFault,
+        Sent::Done => Solved::Refused(fault),
+        Sent::Failed => Solved::WriteFault,
     }
 }

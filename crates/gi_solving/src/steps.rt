@@ -13,11 +13,10 @@ use crate::answer::{Answer, Stop};
 use crate::making::make;
 use crate::printing::{print_answer, print_model};
 use gi_dimacs::{Cnf, Icnf, Item};
-use gi_files::Written;
 use gi_lit::{Clauses, Lits};
 use gi_model::{Call, Reply, Status};
 use gi_net::Caller;
-use gi_outside::Link;
+use gi_outside::{Link, Sent};
 
 /// Does the steps of a CNF file. The answer is that of its solve.
 pub fn solve_cnf<C: Caller, L: Link>(
@@ -120,8 +119,8 @@ fn show<C: Caller, L: Link>(answer: Answer, caller: &mut C, user: &mut L) -> Res
         (λ by. ShowsNot by wait (L.state user.old) (L.state user.new) (C.standing caller.old) (C.standing caller.new)) }
 {
     match print_answer(answer, user) {
-        Written::Cut => return Err(Stop::WriteFault),
-        Written::Whole => {}
+        Sent::Failed => return Err(Stop::WriteFault),
+        Sent::Done => {}
     }
     match answer {
         Answer::Sat => show_model(caller, user),
@@ -145,8 +144,8 @@ fn print_reply<L: Link>(reply: &Reply, user: &mut L) -> Result<(), Stop>
 {
     match reply {
         Reply::Model(literals) => match print_model(literals.as_slice(), user) {
-            Written::Whole => Ok(()),
-            Written::Cut => Err(Stop::WriteFault),
+            Sent::Done => Ok(()),
+            Sent::Failed => Err(Stop::WriteFault),
         },
         _ => Err(Stop::Denied),
     }

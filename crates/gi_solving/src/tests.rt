@@ -3,6 +3,7 @@ ghost use Rattle.std.specs.Prelude.{◌≡◌, ◌-◌, ◌++◌, ◌∷◌, [],
 ghost use Rattle.gi_net.specs.Calls.{IsReplyTo};
 
 use crate::{Solved, solve};
+use gi_dimacs::{CnfCode, CnfFault};
 use gi_files::Form;
 use gi_lit::{Lit, Lits};
 use gi_model::{Call, Refusal, Reply, Status, Why};
@@ -10,7 +11,6 @@ use gi_net::{Answered, Caller};
 use gi_outside::MemoryLink;
 use gi_text::Bytes;
 use std::alloc::{AllocError, Global};
-use std::test::Fail;
 
 #[derive(Drop)]
 struct Note {
@@ -154,19 +154,19 @@ fn new_clerk(
     }
 }
 
-// A link that gives the input in pieces of two bytes at first.
+// A link that gives the input in pieces of two bytes at first, and of which this read and this write fail.
 fn link(
     alloc: Global,
     input: &[u8],
-    bad_reads: Vec<u64>,
-    bad_writes: Vec<u64>,
+    bad_read: u64,
+    bad_write: u64,
 ) -> Result<MemoryLink, AllocError> {
     Ok(MemoryLink::new(
         alloc,
         Bytes::of(alloc, input)?,
         vec![in alloc; 2, 2, 2]?,
-        bad_reads,
-        bad_writes,
+        vec![in alloc; bad_read]?,
+        vec![in alloc; bad_write]?,
     ))
 }
 
@@ -252,20 +252,38 @@ const ROWS: [(Form, &[u8], bool, Status, &[i32], &[u8], Solved); 9] = [
         Status::Sat,
         &[1],
         b"refused 1 header\n",
-        Solved::Refused,
+        Solved::Refused(CnfFault {
+            line: 1,
+            code: CnfCode::Header,
+        }),
     ),
 ];
 
+// Whether the solves of an input print this, end so, and have made so many calls.
+fn solves(
+    form: Form,
+    mut user: MemoryLink,
+    mut caller: Clerk,
+    output: &[u8],
+    solved: Solved,
+) -> Option<usize> {
+    let is_right = solve(caller.alloc, form, 5, &mut caller, &mut user) == solved
+        && user.written() == output;
+    is_right.then_some(caller.notes.len())
+}
+
 #[test]
-fn rows(rt: HostRuntime) -> Result<(), Fail> {
+fn rows(rt: HostRuntime) {
     let alloc = rt.alloc();
     for (form, input, first_fails, verdict, model, output, solved) in ROWS {
-        let mut user = link(alloc, input, Vec::new(alloc), Vec::new(alloc))?;
-        let mut caller = new_clerk(alloc, first_fails, verdict, model, 99);
-        assert_eq!(rt; solve(alloc, form, 5, &mut caller, &mut user), solved);
-        assert_eq!(rt; user.written(), output);
+        let caller = new_clerk(alloc, first_fails, verdict, model, 99);
+        assert!(rt;
+            match link(alloc, input, 0, 0) {
+                Ok(user) => solves(form, user, caller, output, solved).is_some(),
+                Err(_) => false,
+            }
+        );
     }
-    Ok(())
 }
 
 // Calls left, the numbers of the read and the write that fail, and the answer of the wait; then what is printed, how many
@@ -288,16 +306,15 @@ const FAULTS: [(u64, u64, u64, Status, &[u8], usize, Solved); 6] = [
 ];
 
 #[test]
-fn faults(rt: HostRuntime) -> Result<(), Fail> {
+fn faults(rt: HostRuntime) {
     let alloc = rt.alloc();
     for (left, bad_read, bad_write, verdict, output, made, solved) in FAULTS {
-        let bad_reads = vec![in alloc; bad_read]?;
-        let bad_writes = vec![in alloc; bad_write]?;
-        let mut user = link(alloc, b"p cnf 1 1\n1 0\n", bad_reads, bad_writes)?;
-        let mut caller = new_clerk(alloc, false, verdict, &[1], left);
-        assert_eq!(rt; solve(alloc, Form::Cnf, 5, &mut caller, &mut user), solved);
-        assert_eq!(rt; user.written(), output);
-        assert_eq!(rt; caller.notes.len(), made);
+        let caller = new_clerk(alloc, false, verdict, &[1], left);
+        assert!(rt;
+            match link(alloc, b"p cnf 1 1\n1 0\n", bad_read, bad_write) {
+                Ok(user) => solves(Form::Cnf, user, caller, output, solved) == Some(made),
+                Err(_) => false,
+            }
+        );
     }
-    Ok(())
 }

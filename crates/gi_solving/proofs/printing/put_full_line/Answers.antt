@@ -1,5 +1,5 @@
 use Rattle.std.proofs.Common.{◌≡◌, ℕ, ◌+◌, ◌-◌, ◌*◌, List, take, drop, ap, subst, arith}
-use Rattle.gi_solving.specs.Outbox.{Stands}
+use Rattle.gi_outside.specs.Outbox.{Stands}
 use Rattle.gi_solving.proofs.Lines.{full_put}
 use Rattle.gi_solving.proofs.printing.put_full_line.Goals as goal
 

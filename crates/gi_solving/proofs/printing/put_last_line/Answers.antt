@@ -1,5 +1,5 @@
 use Rattle.std.proofs.Common.{ℕ, ◌*◌, List, subst}
-use Rattle.gi_solving.specs.Outbox.{Stands}
+use Rattle.gi_outside.specs.Outbox.{Stands}
 use Rattle.gi_solving.proofs.Lines.{rest_is, rest_put}
 use Rattle.gi_solving.proofs.printing.put_last_line.Goals as goal
 

@@ -1,6 +1,6 @@
 use Rattle.std.proofs.Common.{ℕ, List, ◌∷◌, ◌++◌, take}
 use Rattle.gi_outside.specs.World.{World}
-use Rattle.gi_solving.specs.Outbox.{Stands}
+use Rattle.gi_outside.specs.Outbox.{Stands}
 use Rattle.gi_solving.proofs.Lines.{spaced}
 use Rattle.gi_solving.proofs.printing.put_literals.Given as goal
 

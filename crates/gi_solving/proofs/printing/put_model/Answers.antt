@@ -1,7 +1,7 @@
 use Rattle.std.proofs.Common.{◌≡◌, ℕ, ◌/◌, List, [], ◌++◌, length, subst, arith}
 use Rattle.std.specs.List.{flat_map, range_with_len}
 use Rattle.std.specs.Fork.{slice_chunk}
-use Rattle.gi_solving.specs.Outbox.{Stands}
+use Rattle.gi_outside.specs.Outbox.{Stands}
 use Rattle.gi_solving.specs.Output.{line_text, model_text, words_of}
 use Rattle.gi_solving.proofs.Lines.{lines_more}
 use Rattle.gi_solving.proofs.printing.put_model.Goals as goal

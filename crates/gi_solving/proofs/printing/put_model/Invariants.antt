@@ -2,7 +2,7 @@ use Rattle.std.proofs.Common.{[], ◌++◌}
 use Rattle.std.specs.List.{flat_map, range_with_len}
 use Rattle.std.specs.Fork.{slice_chunk}
 use Rattle.gi_outside.specs.World.{World}
-use Rattle.gi_solving.specs.Outbox.{Stands}
+use Rattle.gi_outside.specs.Outbox.{Stands}
 use Rattle.gi_solving.specs.Output.{line_text, words_of}
 use Rattle.gi_solving.proofs.printing.put_model.Given as goal
 

@@ -12,8 +12,8 @@ last_note xs n =
     let place : length (xs ++ n ∷ []) - 1 ≡ length xs = omega (arith, length-append xs (n ∷ [])) in
     rw place (slice_get_read (xs ++ n ∷ []) (length (xs ++ n ∷ [])) (length xs) n refl (omega (arith, length-append xs (n ∷ []))) (sym (get_or-append_seam xs n [] n)))
 
-pub returns-then-add_note : goal.returns-then-add_note
-returns-then-add_note c =
+pub returns-then-add_note-clause-makes : goal.returns-then-add_note-clause-makes
+returns-then-add_note-clause-makes c =
     let n : Note = record { call = c.args.call; reply = c.reply_to-reply.result } in
     record {
       reply = c.reply_to-reply.result;
