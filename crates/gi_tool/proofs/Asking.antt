@@ -1,13 +1,14 @@
 -- No line asks that the machine be shut.
-use Rattle.std.proofs.Common.{◌≡◌, ◌≢◌, ℕ, ◌+◌, ◌-◌, ◌==◌, nat_lt, length, Bool, true, false, cond, Option, Some, None, option_map, option_to_list, List, [], ◌∷◌, ◌++◌, codes, ◌⊎◌, inl, inr, sym, ap, subst}
+use Rattle.std.proofs.Common.{◌≡◌, ◌≢◌, ℕ, ◌+◌, ◌-◌, ◌==◌, Bool, true, false, cond, Option, Some, None, option_map, option_to_list, List, [], ◌∷◌, ◌++◌, codes, ◌⊎◌, inl, inr, sym, ap, subst}
 use Rattle.std.specs.Str.{bytes_eq}
 use Rattle.gi_model.specs.declared.calls.Call.{Call}
 use Rattle.gi_model.specs.declared.calls.Call.TheVariants as call
 use Rattle.gi_text.specs.Words.{words_of}
+use Rattle.gi_lit.specs.Literals.{max_var}
 use Rattle.gi_wire.specs.declared.call.Kind.{Kind}
 use Rattle.gi_wire.specs.declared.call.Kind.TheVariants.{Cnf}
-use Rattle.gi_wire.specs.Grammar.{Ask, Makes, Loads, ask_of, call_alone, call_of, call_with, count_at, guard_at, list_at, literal_at, load_of, load_with, short_call, under_guard, under_of}
-use Rattle.gi_wire.specs.Items.{Place, InLine, InLoad, at_end, at_line, at_load, cut, items, items_from, line_by, load_call, then_next}
+use Rattle.gi_wire.specs.Grammar.{Ask, Makes, Loads, ask_of, call_alone, call_of, call_with, count_at, guard_at, guards_at, list_at, literal_at, load_of, load_with, or_else, short_call, under_by, under_guards, under_of, under_one}
+use Rattle.gi_wire.specs.Items.{Joined, Place, InLine, InLoad, at_end, at_line, at_load, at_start, cut, cut_lines, goes_on_by, is_long, items, items_from, join, line_at_by, line_by, load_call, then_after, then_next}
 use Rattle.gi_wire.specs.declared.reader.Asked.{Asked}
 use Rattle.gi_wire.specs.declared.reader.Asked.TheVariants as asked
 use Rattle.gi_wire.specs.declared.reader.Item.{Item}
@@ -31,7 +32,7 @@ alone name = either _ (Some (call.Solve 4294967295)) _ (λ e. cc) (either _ (Som
 
 numbered : (name word : List ℕ) → IsElse (call_with name word)
 unfolding call_with
-numbered name word = either (bytes_eq name (codes "vars")) (option_map call.Vars (count_at 0 1048576 word)) _ (mapped call.Vars (count_at 0 1048576 word) (λ x e. cc))
+numbered name word = either (bytes_eq name (codes "vars")) (option_map call.Vars (count_at 0 max_var word)) _ (mapped call.Vars (count_at 0 max_var word) (λ x e. cc))
     (either (bytes_eq name (codes "drop")) (option_map call.DropGuard (guard_at word)) _ (mapped call.DropGuard (guard_at word) (λ x e. cc))
     (either (bytes_eq name (codes "reasons")) (option_map call.Reasons (literal_at word)) _ (mapped call.Reasons (literal_at word) (λ x e. cc))
     (either (bytes_eq name (codes "solve")) (option_map call.Solve (count_at 1 4294967295 word)) _ (mapped call.Solve (count_at 1 4294967295 word) (λ x e. cc))
@@ -43,13 +44,25 @@ short name [] = alone name
 short name (word ∷ []) = numbered name word
 short name (word ∷ other ∷ words) = λ e. cc
 
-guarded : (g : Option ℕ) (list : Option (List ℕ)) → IsElse (under_guard g list)
-guarded None list = λ e. cc
-guarded (Some g) list = mapped (call.Under g) list (λ x e. cc)
+by_guard : (g : Option ℕ) (list : Option (List ℕ)) → IsElse (under_by g list)
+by_guard None list = λ e. cc
+by_guard (Some g) list = mapped (call.Under (g ∷ [])) list (λ x e. cc)
+
+under_first : (words : List (List ℕ)) → IsElse (under_one words)
+under_first [] = λ e. cc
+under_first (word ∷ words) = by_guard (guard_at word) (list_at words)
+
+by_guards : (read : Option (List ℕ × List (List ℕ))) → IsElse (under_guards read)
+by_guards None = λ e. cc
+by_guards (Some ([], words)) = λ e. cc
+by_guards (Some (g ∷ gs, words)) = mapped (call.Under (g ∷ gs)) (list_at words) (λ x e. cc)
+
+one_of : (x y : Option Call) → IsElse x → IsElse y → IsElse (or_else x y)
+one_of None y h k = k
+one_of (Some c) y h k = h
 
 under : (words : List (List ℕ)) → IsElse (under_of words)
-under [] = λ e. cc
-under (word ∷ words) = guarded (guard_at word) (list_at words)
+under words = one_of (under_one words) (under_guards (guards_at words)) (under_first words) (by_guards (guards_at words))
 
 by_words : (words : List (List ℕ)) → IsElse (call_of words)
 unfolding call_of
@@ -103,51 +116,57 @@ AsksShut i = i.asked ≡ asked.Call call.Shut
 abbrev Never : (ℕ → Place → List Item) → Type 0
 Never next = (line : ℕ) (place : Place) → ¬ Has AsksShut (next line place)
 
-never_next : (line : ℕ) (what : Asked) (next : ℕ → Place → List Item) → what ≢ asked.Call call.Shut → Never next → ¬ Has AsksShut (then_next line what next)
-never_next line what next other rest (inl here) = other here
-never_next line what next other rest (inr there) = rest (line + 1) (InLine []) there
+never_after : (first line : ℕ) (what : Asked) (next : ℕ → Place → List Item) → what ≢ asked.Call call.Shut → Never next → ¬ Has AsksShut (then_after first line what next)
+never_after first line what next other rest (inl here) = other here
+never_after first line what next other rest (inr there) = rest (line + 1) (at_start (line + 1)) there
 
 never_load : (line : ℕ) (kind : Kind) (got : List ℕ) (missing : ℕ) (next : ℕ → Place → List Item) → Never next → ¬ Has AsksShut (at_load line kind got missing next)
 unfolding at_load
 never_load line kind got missing next rest h = go (missing == 0) h
   where
     go : (t : Bool) → Has AsksShut (cond t (then_next line (asked.Call (load_call kind got)) next) (next line (InLoad kind got missing))) → ⊥
-    go true h = never_next line (asked.Call (load_call kind got)) next (λ e. load_other kind got cc) rest h
+    go true h = never_after line line (asked.Call (load_call kind got)) next (λ e. load_other kind got cc) rest h
     go false h = rest line (InLoad kind got missing) h
 
-never_by : (line : ℕ) (o : Option Ask) (next : ℕ → Place → List Item) → IsOther o → Never next → ¬ Has AsksShut (line_by line o next)
-never_by line None next n rest h = never_next line asked.Syntax next (λ e. absurd cc) rest h
-never_by line (Some (Makes c)) next n rest h = never_next line (asked.Call c) next (λ e. n cc) rest h
-never_by line (Some (Loads kind len)) next n rest h = never_load line kind [] len next rest h
+never_by : (first line : ℕ) (o : Option Ask) (next : ℕ → Place → List Item) → IsOther o → Never next → ¬ Has AsksShut (line_by first line o next)
+never_by first line None next n rest h = never_after first line asked.Syntax next (λ e. absurd cc) rest h
+never_by first line (Some (Makes c)) next n rest h = never_after first line (asked.Call c) next (λ e. n cc) rest h
+never_by first line (Some (Loads kind len)) next n rest h = never_load line kind [] len next rest h
 
-never_line : (line : ℕ) (bytes : List ℕ) (next : ℕ → Place → List Item) → Never next → ¬ Has AsksShut (at_line line bytes next)
+never_line : (line : ℕ) (joined : Joined) (bytes : List ℕ) (next : ℕ → Place → List Item) → Never next → ¬ Has AsksShut (at_line line joined bytes next)
 unfolding at_line
-never_line line bytes next rest h = go (nat_lt 1048576 (length bytes)) h
+never_line line joined bytes next rest h = go (is_long joined bytes) (goes_on_by joined.words (words_of bytes)) h
   where
-    go : (t : Bool) → Has AsksShut (cond t (then_next line asked.Long next) (line_by line (ask_of (words_of bytes)) next)) → ⊥
-    go true h = never_next line asked.Long next (λ e. absurd cc) rest h
-    go false h = never_by line (ask_of (words_of bytes)) next (of_words (words_of bytes)) rest h
+    go : (long goes : Bool) → Has AsksShut (cond long (then_after joined.first line asked.Long next) (line_at_by goes line joined bytes next)) → ⊥
+    go true goes h = never_after joined.first line asked.Long next (λ e. absurd cc) rest h
+    go false true h = rest (line + 1) (InLine (join joined bytes) []) h
+    go false false h = never_by joined.first line (ask_of (joined.words ++ words_of bytes)) next (of_words (joined.words ++ words_of bytes)) rest h
+
+never_cut_lines : (words : List (List ℕ)) (first : ℕ) → ¬ Has AsksShut (cut_lines words first)
+never_cut_lines [] first h = h
+never_cut_lines (w ∷ ws) first (inl here) = absurd cc
+never_cut_lines (w ∷ ws) first (inr there) = there
 
 never_cut : Never cut
-never_cut line (InLine begun) h = h
+never_cut line (InLine joined begun) h = never_cut_lines joined.words joined.first h
 never_cut line (InLoad kind got missing) (inl here) = absurd cc
 never_cut line (InLoad kind got missing) (inr there) = there
 
 never_last : Never at_end
-never_last line (InLine []) h = h
-never_last line (InLine (b ∷ bs)) h = never_line line (b ∷ bs) cut never_cut h
+never_last line (InLine joined []) h = never_cut line (InLine joined []) h
+never_last line (InLine joined (b ∷ bs)) h = never_line line joined (b ∷ bs) cut never_cut h
 never_last line (InLoad kind got missing) h = never_cut line (InLoad kind got missing) h
 
 never_from : (bs : List ℕ) (ended : Bool) → Never (λ line place. items_from ended line place bs)
 unfolding items_from
 never_from [] true line place h = never_last line place h
 never_from [] false line place h = h
-never_from (b ∷ bs) ended line (InLine begun) h = go (never_from bs ended) (b == 10) h
+never_from (b ∷ bs) ended line (InLine joined begun) h = go (never_from bs ended) (b == 10) h
   where
     go : Never (λ k place. items_from ended k place bs) → (t : Bool)
-        → Has AsksShut (cond t (at_line line begun (λ k place. items_from ended k place bs)) (items_from ended line (InLine (begun ++ b ∷ [])) bs)) → ⊥
-    go rest true h = never_line line begun (λ k place. items_from ended k place bs) rest h
-    go rest false h = rest line (InLine (begun ++ b ∷ [])) h
+        → Has AsksShut (cond t (at_line line joined begun (λ k place. items_from ended k place bs)) (items_from ended line (InLine joined (begun ++ b ∷ [])) bs)) → ⊥
+    go rest true h = never_line line joined begun (λ k place. items_from ended k place bs) rest h
+    go rest false h = rest line (InLine joined (begun ++ b ∷ [])) h
 never_from (b ∷ bs) ended line (InLoad kind got missing) h = never_load line kind (got ++ b ∷ []) (missing - 1) (λ k place. items_from ended k place bs) (never_from bs ended) h
 
 asked_by_item : (is : List Item) → Has (λ (c : Call). c ≡ call.Shut) (calls is) → Has AsksShut is
@@ -164,4 +183,4 @@ asked_by_item (i ∷ is) h = go (asked_by_item is) i.asked h
 -- so no call of an input's items is a shut
 pub never_called : (ended : Bool) (bytes : List ℕ) (front rest : List Item) → items ended bytes ≡ front ++ rest → ¬ Has (λ (c : Call). c ≡ call.Shut) (calls front)
 never_called ended bytes front rest split h =
-    never_from bytes ended 1 (InLine []) (subst (Has AsksShut) (sym split) (has_left AsksShut front rest (asked_by_item front h)))
+    never_from bytes ended 1 (at_start 1) (subst (Has AsksShut) (sym split) (has_left AsksShut front rest (asked_by_item front h)))

@@ -7,6 +7,7 @@ use Rattle.gi_outside.specs.Link.{Rose}
 use Rattle.gi_outside.specs.World.{World, WroteCut}
 use Rattle.gi_dimacs.proofs.Ends.{good_values}
 use Rattle.gi_files.specs.declared.form.Form.{Form}
+use Rattle.gi_files.specs.Texts.{refused_text}
 use Rattle.gi_files.specs.declared.form.Form.TheVariants as forms
 use Rattle.gi_model.specs.History.{Entry}
 use Rattle.gi_model.specs.declared.calls.Call.{Call}
@@ -33,9 +34,9 @@ use Rattle.gi_tool.proofs.Lost.{IsLost, lost_or_called}
 use Rattle.gi_tool.proofs.Having.{Has, has_contained, has_left, has_right, has_split, has_unfiltered}
 use Rattle.gi_tool.specs.Solving.{AreAsked, AreTrue, HasSolved, IsAnswered, IsNew, IsUndisturbed}
 
-all_own : (es : List Entry) → All IsOwn es → all_own_of 0 es ≡ es
-all_own [] h = refl
-all_own (e ∷ es) h = rw (eq-eqb e.by 0 (All-head IsOwn e es h).by) (ap (λ xs. e ∷ xs) (all_own es (All-tail IsOwn e es h)))
+all_own : (n : ℕ) (es : List Entry) → All (IsOwn n) es → all_own_of n es ≡ es
+all_own n [] h = refl
+all_own n (e ∷ es) h = rw (eq-eqb e.by n (All-head (IsOwn n) e es h).by) (ap (λ xs. e ∷ xs) (all_own n es (All-tail (IsOwn n) e es h)))
 
 -- the calls of a good file were begun
 pub record Began (form : Form) (bytes : List ℕ) (budget : ℕ) (before after : Standing) : Type 0 where
@@ -69,7 +70,7 @@ began : (by : Solved) (form : Form) (budget : ℕ) (old new : World) (before aft
 began solved.Sat form budget old new before after s = inr (answered_began form budget old s.mid new before after s.bytes _ s.ends)
 began solved.Unsat form budget old new before after s = inr (answered_began form budget old s.mid new before after s.bytes _ s.ends)
 began solved.Unknown form budget old new before after s = inr (answered_began form budget old s.mid new before after s.bytes _ s.ends)
-began solved.Refused form budget old new before after s = inl s.ends.1.same
+began (solved.Refused fault) form budget old new before after s = inl s.ends.0.same
 began solved.ReadFault form budget old new before after s = inl s.ends.2
 began solved.WriteFault form budget old new before after s = elim s.ends [ inl r ↦ inl r.1.same | inr t ↦ inr (stopped_began form budget old s.mid new before after s.bytes _ t) ]
 began solved.NoMemory form budget old new before after s = elim s.ends [ inl r ↦ inl r.1 | inr t ↦ inr (stopped_began form budget old s.mid new before after s.bytes _ t) ]
@@ -77,28 +78,31 @@ began solved.TooMuch form budget old new before after s = elim s.ends [ inl r �
 began solved.Denied form budget old new before after s = inr (stopped_began form budget old s.mid new before after s.bytes _ s.ends)
 
 -- the whole history of such a pass is that of the file's calls, or of a front of them
-module _ (form : Form) (bytes : List ℕ) (budget : ℕ) (p q : Seen) (new : IsNew p) (b : Began form bytes budget (standing p) (standing q)) (kept : IsHistory q.history) where
+module _ (form : Form) (bytes : List ℕ) (budget : ℕ) (p q : Seen) (new : IsNew p) (b : Began form bytes budget (standing p) (standing q)) (kept : IsHistory q.number q.history) where
+  kept_own : All (IsOwn p.number) q.history
+  kept_own = subst (λ (n : ℕ). All (IsOwn n) q.history) b.grown.number kept.own
+
   entered : q.history ≡ b.grown.entries
   entered = b.grown.history ∙ ap (λ es. es ++ b.grown.entries) new.history
 
-  alone : all_own_of 0 q.history ≡ q.history
-  alone = all_own q.history kept.own
+  alone : all_own_of p.number q.history ≡ q.history
+  alone = all_own p.number q.history kept_own
 
-  own_is : own_of 0 q.history ≡ b.calls
-  own_is = ap (own_of 0) entered ∙ b.grown.own_is
+  own_is : own_of p.number q.history ≡ b.calls
+  own_is = ap (own_of p.number) entered ∙ b.grown.own_is
 
   few : length q.history ≤ 2 ^ 56
   few =
-      let e : length (all_own_of 0 b.grown.entries) ≡ length q.history = ap length (ap (all_own_of 0) (sym entered) ∙ alone) in
+      let e : length (all_own_of p.number b.grown.entries) ≡ length q.history = ap length (ap (all_own_of p.number) (sym entered) ∙ alone) in
       let l = b.grown.left in
       let m = new.left in
       omega arith
 
-  history_of : IsHistoryOf 0 budget b.steps q.history
+  history_of : IsHistoryOf p.number budget b.steps q.history
   history_of = record {
     legal = kept.legal;
     alone = alone;
-    unstopped = All-weaker IsOwn IsUnstopped (λ e o. o.unmarked) q.history kept.own;
+    unstopped = All-weaker (IsOwn p.number) IsUnstopped (λ e o. o.unmarked) q.history kept_own;
     few = few;
     rest = b.rest;
     does = subst (λ cs. Does budget b.steps (cs ++ b.rest)) (sym own_is) b.does;
@@ -106,19 +110,19 @@ module _ (form : Form) (bytes : List ℕ) (budget : ℕ) (p q : Seen) (new : IsN
 
   abbrev stands : 1 ≤ budget → (before after : List Entry) (e : Entry) → q.history ≡ before ++ e ∷ after → StandsIn budget before e
   stands least before after e split = record {
-    number = 0;
+    number = p.number;
     steps = b.steps;
     after = after;
     positive = least;
     good = good_of form bytes b.steps b.are;
-    history = subst (IsHistoryOf 0 budget b.steps) split history_of;
+    history = subst (IsHistoryOf p.number budget b.steps) split history_of;
   }
 
 no_split : {P : Type 0} (es before after : List Entry) (e : Entry) → es ≡ [] → es ≡ before ++ e ∷ after → P
 no_split es [] after e none split = let n : [] ≡ e ∷ after = sym none ∙ split in absurd cc
 no_split es (x ∷ before) after e none split = let n : [] ≡ x ∷ (before ++ e ∷ after) = sym none ∙ split in absurd cc
 
-module _ (form : Form) (bytes : List ℕ) (budget : ℕ) (p q : Seen) (new : IsNew p) (least : 1 ≤ budget) (kept : IsHistory q.history) where
+module _ (form : Form) (bytes : List ℕ) (budget : ℕ) (p q : Seen) (new : IsNew p) (least : 1 ≤ budget) (kept : IsHistory q.number q.history) where
   -- what was told at a wait and at a model
   asked_of : AsksAreWritten → (standing q ≡ standing p) ⊎ Began form bytes budget (standing p) (standing q) → AreAsked form bytes q.history
   asked_of written (inl same) before after e split c = no_split q.history before after e (ap (λ (s : Standing). s.history) same ∙ new.history) split
@@ -126,7 +130,7 @@ module _ (form : Form) (bytes : List ℕ) (budget : ℕ) (p q : Seen) (new : IsN
       let w = written budget before e (stands form bytes budget p q new b kept least before after e split) c in
       record { steps = b.steps; are = b.are; front = w.0; rest = w.1; split = w.2; told_is = w.3 }
 
-module _ (form : Form) (bytes : List ℕ) (budget : ℕ) (p q : Seen) (new : IsNew p) (least : 1 ≤ budget) (kept : IsHistory q.history) (answered : CallsAreAnswered) (models : ModelsAreTrue) (failures : FailuresAreTrue) (unknown : UnknownIsSpent) where
+module _ (form : Form) (bytes : List ℕ) (budget : ℕ) (p q : Seen) (new : IsNew p) (least : 1 ≤ budget) (kept : IsHistory q.number q.history) (answered : CallsAreAnswered) (models : ModelsAreTrue) (failures : FailuresAreTrue) (unknown : UnknownIsSpent) where
   true_of : (standing q ≡ standing p) ⊎ Began form bytes budget (standing p) (standing q) → AreTrue budget q.history
   true_of (inl same) =
       let none : q.history ≡ [] = ap (λ (s : Standing). s.history) same ∙ new.history in
@@ -170,18 +174,18 @@ none_starved [] a h = h
 none_starved (e ∷ es) a (inl here) = not_proper e.call (subst (λ r. is_proper e.call r ≡ true) here a.0)
 none_starved (e ∷ es) a (inr there) = none_starved es a.1 there
 
-module _ (form : Form) (bytes : List ℕ) (budget : ℕ) (p q : Seen) (new : IsNew p) (least : 1 ≤ budget) (kept : IsHistory q.history) (answered : CallsAreAnswered) (b : Began form bytes budget (standing p) (standing q)) (d : IsDenied b.calls) where
+module _ (form : Form) (bytes : List ℕ) (budget : ℕ) (p q : Seen) (new : IsNew p) (least : 1 ≤ budget) (kept : IsHistory q.number q.history) (answered : CallsAreAnswered) (b : Began form bytes budget (standing p) (standing q)) (d : IsDenied b.calls) where
   abbrev last : Entry
   last = d.0.last
 
   is_call : is_work last.call ≡ false
   is_call =
-      let ps : All (λ (e : Entry). ((e.by == 0) && not (is_work e.call)) ≡ true) (d.0.before ++ last ∷ []) =
-      subst (All (λ (e : Entry). ((e.by == 0) && not (is_work e.call)) ≡ true)) (own_is form bytes budget p q new b kept ∙ d.0.split) (filter_passes (λ (e : Entry). (e.by == 0) && not (is_work e.call)) q.history) in
-      not-true _ (and_parts _ _ (All-contains (λ (e : Entry). ((e.by == 0) && not (is_work e.call)) ≡ true) (d.0.before ++ last ∷ []) last ps (Contains-append_right d.0.before (last ∷ []) last (0, omega arith, refl)))).1
+      let ps : All (λ (e : Entry). ((e.by == p.number) && not (is_work e.call)) ≡ true) (d.0.before ++ last ∷ []) =
+      subst (All (λ (e : Entry). ((e.by == p.number) && not (is_work e.call)) ≡ true)) (own_is form bytes budget p q new b kept ∙ d.0.split) (filter_passes (λ (e : Entry). (e.by == p.number) && not (is_work e.call)) q.history) in
+      not-true _ (and_parts _ _ (All-contains (λ (e : Entry). ((e.by == p.number) && not (is_work e.call)) ≡ true) (d.0.before ++ last ∷ []) last ps (Contains-append_right d.0.before (last ∷ []) last (0, omega arith, refl)))).1
 
   called : Has (λ (e : Entry). e ≡ last) q.history
-  called = has_unfiltered (λ (e : Entry). e ≡ last) (λ (e : Entry). (e.by == 0) && not (is_work e.call)) q.history
+  called = has_unfiltered (λ (e : Entry). e ≡ last) (λ (e : Entry). (e.by == p.number) && not (is_work e.call)) q.history
       (subst (Has (λ (e : Entry). e ≡ last)) (sym (own_is form bytes budget p q new b kept ∙ d.0.split)) (has_right (λ (e : Entry). e ≡ last) d.0.before (last ∷ []) (inl refl)))
 
   starved : Has IsStarved q.history
@@ -193,7 +197,7 @@ module _ (form : Form) (bytes : List ℕ) (budget : ℕ) (p q : Seen) (new : IsN
       ]
 
   lost : HasLostWork q.history
-  lost = elim (lost_or_called IsStarved (λ e w h. h) q.history kept.own starved) [
+  lost = elim (lost_or_called IsStarved (λ e w h. h) p.number q.history (kept_own form bytes budget p q new b kept) starved) [
     | inl gone ↦ (let h = has_contained IsLost q.history gone in (h.0, h.1, h.2.0, h.2.1))
     | inr in_calls ↦ elim (has_split IsStarved d.0.before (last ∷ []) (subst (Has IsStarved) (own_is form bytes budget p q new b kept ∙ d.0.split) in_calls)) [
       | inl before ↦ absurd (none_starved d.0.before d.0.proper before)
@@ -202,7 +206,7 @@ module _ (form : Form) (bytes : List ℕ) (budget : ℕ) (p q : Seen) (new : IsN
     ]
   ]
 
-denied_lost : (by : Solved) (form : Form) (budget : ℕ) (old now : World) (p q : Seen) → IsNew p → 1 ≤ budget → IsHistory q.history → CallsAreAnswered → Solves by form budget old now (standing p) (standing q) → by ≡ solved.Denied → HasLostWork q.history
+denied_lost : (by : Solved) (form : Form) (budget : ℕ) (old now : World) (p q : Seen) → IsNew p → 1 ≤ budget → IsHistory q.number q.history → CallsAreAnswered → Solves by form budget old now (standing p) (standing q) → by ≡ solved.Denied → HasLostWork q.history
 denied_lost solved.Denied form budget old now p q new least kept answered s e = lost form s.bytes budget p q new least kept answered (stopped_began form budget old s.mid now (standing p) (standing q) s.bytes stops.Denied s.ends) s.ends.begun.cause.0
 denied_lost by form budget old now p q new least kept answered s e = absurd cc
 
@@ -214,10 +218,10 @@ module _ (form : Form) (budget : ℕ) (old now : World) (p q : Seen) where
   undisturbed_whole solved.Sat s lost u = inl refl
   undisturbed_whole solved.Unsat s lost u = inr (inl refl)
   undisturbed_whole solved.Unknown s lost u = inr (inr (inl refl))
-  undisturbed_whole solved.Refused s lost u = inr (inr (inr refl))
+  undisturbed_whole (solved.Refused fault) s lost u = inr (inr (inr (fault, refl)))
   undisturbed_whole solved.ReadFault s lost u = absurd (u.reads (subst (λ (w : World). Rose old.failed_reads w.failed_reads) (sym s.ends.1) s.ends.0))
   undisturbed_whole solved.WriteFault s lost u = elim s.ends [
-    | inl r ↦ absurd (no_cut s.mid r.0 s.gave.writes u.writes r.2)
+    | inl r ↦ absurd (no_cut s.mid (refused_text r.0) s.gave.writes u.writes r.2)
     | inr t ↦ absurd (no_cut s.mid _ s.gave.writes u.writes t.begun.cause.1)
   ]
   undisturbed_whole solved.NoMemory s lost u = absurd (u.memory refl)
@@ -228,7 +232,7 @@ module _ (form : Form) (budget : ℕ) (old now : World) (p q : Seen) where
   undisturbed_whole solved.Denied s lost u = absurd (u.work (lost refl))
 
   -- all that holds of a file that was solved on a pass
-  pub has_solved : (by : Solved) → Solves by form budget old now (standing p) (standing q) → 1 ≤ budget → IsHistory q.history → CallsAreAnswered → ModelsAreTrue → FailuresAreTrue → UnknownIsSpent → AsksAreWritten → HasSolved by form budget old now p q
+  pub has_solved : (by : Solved) → Solves by form budget old now (standing p) (standing q) → 1 ≤ budget → IsHistory q.number q.history → CallsAreAnswered → ModelsAreTrue → FailuresAreTrue → UnknownIsSpent → AsksAreWritten → HasSolved by form budget old now p q
   has_solved by s least kept answered models failures unknown written = record {
     solves = s;
     kept = kept;

@@ -26,37 +26,38 @@ legal_front : (xs ys : List Entry) (s : State) → IsLegalFrom s (xs ++ ys) → 
 legal_front [] ys s h = tt
 legal_front (x ∷ xs) ys s h = (h.0, legal_front xs ys (after s x.call x.reply) h.1)
 
-own_front : (xs ys : List Entry) → All IsOwn (xs ++ ys) → All IsOwn xs
-own_front [] ys h = All-nil IsOwn
-own_front (x ∷ xs) ys h = All-cons IsOwn x xs (All-head IsOwn x (xs ++ ys) h) (own_front xs ys (All-tail IsOwn x (xs ++ ys) h))
+own_front : (n : ℕ) (xs ys : List Entry) → All (IsOwn n) (xs ++ ys) → All (IsOwn n) xs
+own_front n [] ys h = All-nil (IsOwn n)
+own_front n (x ∷ xs) ys h = All-cons (IsOwn n) x xs (All-head (IsOwn n) x (xs ++ ys) h) (own_front n xs ys (All-tail (IsOwn n) x (xs ++ ys) h))
 
-own_behind : (xs ys : List Entry) → All IsOwn (xs ++ ys) → All IsOwn ys
-own_behind [] ys h = h
-own_behind (x ∷ xs) ys h = own_behind xs ys (All-tail IsOwn x (xs ++ ys) h)
+own_behind : (n : ℕ) (xs ys : List Entry) → All (IsOwn n) (xs ++ ys) → All (IsOwn n) ys
+own_behind n [] ys h = h
+own_behind n (x ∷ xs) ys h = own_behind n xs ys (All-tail (IsOwn n) x (xs ++ ys) h)
 
-kept_front : (xs ys : List Entry) → IsHistory (xs ++ ys) → IsHistory xs
-kept_front xs ys h = record { legal = record { each = legal_front xs ys opening h.legal.each }; own = own_front xs ys h.own }
+kept_front : (n : ℕ) (xs ys : List Entry) → IsHistory n (xs ++ ys) → IsHistory n xs
+kept_front n xs ys h = record { legal = record { each = legal_front xs ys opening h.legal.each }; own = own_front n xs ys h.own }
 
 -- the history up to the shut is kept too
-pub kept_mid : (mid after : Standing) → Shuts mid after → IsHistory after.history → IsHistory mid.history
-kept_mid mid after (inl shut) kept = kept_front mid.history _ (subst IsHistory shut.history kept)
-kept_mid mid after (inr none) kept = subst (λ (s : Standing). IsHistory s.history) none.1 kept
+pub kept_mid : (mid after : Standing) → Shuts mid after → IsHistory after.number after.history → IsHistory mid.number mid.history
+kept_mid mid after (inl shut) kept = kept_front mid.number mid.history _ (subst (IsHistory mid.number) shut.history (subst (λ (n : ℕ). IsHistory n after.history) shut.number kept))
+kept_mid mid after (inr none) kept = subst (λ (s : Standing). IsHistory s.number s.history) none.1 kept
 
-ended : (old new : World) (before mid : Standing) (s : Session old new before mid how.Dead) → IsHistory mid.history → Has Ends (before.history ++ s.entries)
+ended : (old new : World) (before mid : Standing) (s : Session old new before mid how.Dead) → IsHistory mid.number mid.history → Has Ends (before.history ++ s.entries)
 ended old new before mid s kept = ended_in before.history s.entries (own_of before.number s.entries) _ s.served.front (subst (λ (es : List Entry). IsLegalFrom opening es) s.history kept.legal.each) refl s.served.ends.0
 
-over : (old new : World) (before mid : Standing) (by : How) → Session old new before mid by → IsHistory mid.history → by ≡ how.Dead → HasEnded mid.history
+over : (old new : World) (before mid : Standing) (by : How) → Session old new before mid by → IsHistory mid.number mid.history → by ≡ how.Dead → HasEnded mid.history
 over old new before mid how.Dead s kept e = subst HasEnded (sym s.history) (has_contained Ends (before.history ++ s.entries) (ended old new before mid s kept))
 over old new before mid by s kept e = absurd cc
 
-lost : (old new : World) (p : Seen) (mid : Standing) (by : How) (s : Session old new (standing p) mid by) → IsHistory mid.history → by ≡ how.Dead → ¬ HasEnded p.history → HasLostWork s.entries
+lost : (old new : World) (p : Seen) (mid : Standing) (by : How) (s : Session old new (standing p) mid by) → IsHistory mid.number mid.history → by ≡ how.Dead → ¬ HasEnded p.history → HasLostWork s.entries
 lost old new p mid how.Dead s kept e fresh =
-    lost_work p.history s.entries new.ended (ins s.added) s.served.front s.served.rest (own_behind p.history s.entries (subst (All IsOwn) s.history kept.own))
+    lost_work p.number p.history s.entries new.ended (ins s.added) s.served.front s.served.rest
+    (own_behind p.number p.history s.entries (subst (All (IsOwn p.number)) s.history (subst (λ (n : ℕ). All (IsOwn n) mid.history) s.number kept.own)))
     (ended old new (standing p) mid s kept) fresh s.served.split s.served.calls_are s.served.ends.0
 lost old new p mid by s kept e fresh = absurd cc
 
 of_session : (old new : World) (p : Seen) (mid after : Standing) (by : How) (s : Session old new (standing p) mid by) → Shuts mid after ⊎ HasNoRoom old new (standing p) mid after by
-    → IsHistory mid.history → IsHistory after.history → Hosts old new (standing p) after by
+    → IsHistory mid.number mid.history → IsHistory after.number after.history → Hosts old new (standing p) after by
 of_session old new p mid after by s behind kept_mid kept = record {
   mid = mid;
   session = s;
@@ -67,13 +68,13 @@ of_session old new p mid after by s behind kept_mid kept = record {
   whole = whole old new (standing p) mid by s;
 }
 
-pub hosted : (old new : World) (p : Seen) (start mid after : Standing) (by : How) → start ≡ standing p → Session old new start mid by → Shuts mid after → IsHistory after.history → Hosts old new (standing p) after by
+pub hosted : (old new : World) (p : Seen) (start mid after : Standing) (by : How) → start ≡ standing p → Session old new start mid by → Shuts mid after → IsHistory after.number after.history → Hosts old new (standing p) after by
 hosted old new p start mid after by same s shut kept =
     of_session old new p mid after by (subst (λ (x : Standing). Session old new x mid by) same s) (inl shut) (kept_mid mid after shut kept) kept
 
-pub unhosted : (old new : World) (p : Seen) (after : Standing) (by : How) → after ≡ standing p → TellsNoMemory by old new → IsHistory after.history → Hosts old new (standing p) after by
+pub unhosted : (old new : World) (p : Seen) (after : Standing) (by : How) → after ≡ standing p → TellsNoMemory by old new → IsHistory after.number after.history → Hosts old new (standing p) after by
 unhosted old new p after by same told kept =
-    of_session old new p (standing p) after by (starved old new (standing p) by told) (inr (record { none = refl; same = same; told = told })) (subst (λ (s : Standing). IsHistory s.history) same kept) kept
+    of_session old new p (standing p) after by (starved old new (standing p) by told) (inr (record { none = refl; same = same; told = told })) (subst (λ (s : Standing). IsHistory s.number s.history) same kept) kept
 
 -- the status of such a session
 pub runs : (old new : World) (before after : Standing) (by : How) (status : ℕ) → Hosts old new before after by → status ≡ exit_status by → Runs old new before after status

@@ -58,43 +58,44 @@ busy s mark r live a = let run = has_run s live in go (live_run s) run.0 run.1 a
     go o run e (inr x) = λ idle. (let no : reply.NoMemory ≡ reply.Idle = sym x.0 ∙ idle in absurd cc)
 
 -- nothing was called yet
-pub kept_opening : (machine : State) → machine ≡ opening → IsKept machine []
+pub kept_opening : (n : ℕ) (machine : State) → machine ≡ opening → IsKept n machine []
 unfolding after_all
-kept_opening machine e = record {
-  history = record { legal = record { each = tt }; own = All-nil IsOwn };
+kept_opening n machine e = record {
+  history = record { legal = record { each = tt }; own = All-nil (IsOwn n) };
   state = e;
 }
 
 -- the history with one entry more
-pub noted : (before after : List Noted) (e : Noted) → after ≡ before ++ e ∷ [] → history_of after ≡ history_of before ++ own e ∷ []
-noted before after e is = ap history_of is ∙ map-append own before (e ∷ [])
+pub noted : (n : ℕ) (before after : List Noted) (e : Noted) → after ≡ before ++ e ∷ [] → history_of n after ≡ history_of n before ++ own n e ∷ []
+noted n before after e is = ap (history_of n) is ∙ map-append (own n) before (e ∷ [])
 
-more : (old new : State) (es : List Entry) (c : Call) (r : Reply) → IsKept old es → ((mark : ℕ) → c ≡ call.Work mark → mark ≡ 0) → r ≢ reply.Idle → Step old c r new
-    → IsKept new (es ++ record { by = 0; call = c; reply = r } ∷ [])
-more old new es c r was marks busy step = record {
+more : (n : ℕ) (old new : State) (es : List Entry) (c : Call) (r : Reply) → IsKept n old es → ((mark : ℕ) → c ≡ call.Work mark → mark ≡ 0) → r ≢ reply.Idle → Step old c r new
+    → IsKept n new (es ++ record { by = n; call = c; reply = r } ∷ [])
+more n old new es c r was marks busy step = record {
   history = record {
-    legal = record { each = legal_push es (record { by = 0; call = c; reply = r }) opening was.history.legal.each (subst (λ s. Allows s c r) was.state step.allowed) };
-    own = All-push IsOwn es (record { by = 0; call = c; reply = r }) was.history.own (record { by = refl; unmarked = marks; busy = busy });
+    legal = record { each = legal_push es (record { by = n; call = c; reply = r }) opening was.history.legal.each (subst (λ s. Allows s c r) was.state step.allowed) };
+    own = All-push (IsOwn n) es (record { by = n; call = c; reply = r }) was.history.own (record { by = refl; unmarked = marks; busy = busy });
   };
-  state = step.new_is ∙ ap (λ s. after s c r) was.state ∙ sym (after_push es (record { by = 0; call = c; reply = r }) opening);
+  state = step.new_is ∙ ap (λ s. after s c r) was.state ∙ sym (after_push es (record { by = n; call = c; reply = r }) opening);
 }
 
-pub kept_more : (old new : State) (before after : List Noted) (c : Call) (r : Reply) → after ≡ before ++ record { call = c; reply = r } ∷ []
-    → IsKept old (history_of before) → ((mark : ℕ) → c ≡ call.Work mark → mark ≡ 0) → r ≢ reply.Idle → Step old c r new → IsKept new (history_of after)
-kept_more old new before after c r is was marks busy step =
-    subst (IsKept new) (sym (noted before after (record { call = c; reply = r }) is)) (more old new (history_of before) c r was marks busy step)
+pub kept_more : (n : ℕ) (old new : State) (before after : List Noted) (c : Call) (r : Reply) → after ≡ before ++ record { call = c; reply = r } ∷ []
+    → IsKept n old (history_of n before) → ((mark : ℕ) → c ≡ call.Work mark → mark ≡ 0) → r ≢ reply.Idle → Step old c r new → IsKept n new (history_of n after)
+kept_more n old new before after c r is was marks busy step =
+    subst (IsKept n new) (sym (noted n before after (record { call = c; reply = r }) is)) (more n old new (history_of n before) c r was marks busy step)
 
 -- and with one call fewer, and less room
-pub noted_more : (s : Seen) (before after : List Noted) (c : Call) (r : Reply) (left left_now capacity capacity_now : ℕ)
-    → record { history = history_of before; left = left; room = capacity - length before } ≡ s → after ≡ before ++ record { call = c; reply = r } ∷ []
+pub noted_more : (n : ℕ) (s : Seen) (before after : List Noted) (c : Call) (r : Reply) (left left_now capacity capacity_now : ℕ)
+    → record { number = n; history = history_of n before; left = left; room = capacity - length before } ≡ s → after ≡ before ++ record { call = c; reply = r } ∷ []
     → capacity_now ≡ capacity → left_now ≡ left - 1 → 0 < s.left → 1 ≤ s.room
-    → HasNoted c r s (record { history = history_of after; left = left_now; room = capacity_now - length after })
-noted_more s before after c r left left_now capacity capacity_now view is same fewer some room =
+    → HasNoted c r s (record { number = n; history = history_of n after; left = left_now; room = capacity_now - length after })
+noted_more n s before after c r left left_now capacity capacity_now view is same fewer some room =
     let count : length after ≡ length before + 1 = ap length is ∙ length-append before (record { call = c; reply = r } ∷ []) in
     let left_is : left ≡ s.left = ap (λ (x : Seen). x.left) view in
     let room_is : capacity - length before ≡ s.room = ap (λ (x : Seen). x.room) view in
     record {
-      history = noted before after (record { call = c; reply = r }) is ∙ ap (λ (x : Seen). x.history ++ record { by = 0; call = c; reply = r } ∷ []) view;
+      number = ap (λ (x : Seen). x.number) view;
+      history = noted n before after (record { call = c; reply = r }) is ∙ ap (λ (x : Seen). x.history ++ record { by = x.number; call = c; reply = r } ∷ []) view;
       left = omega (arith, left_is, fewer, some);
       room = omega (arith, room_is, count, same, room);
     }

@@ -34,19 +34,19 @@ no_shut c w e = absurd cc
 
 -- an entry of a kind is lost work or a call, where no other work is of that kind
 module _ (P : Entry → Type 0) (only_lost : (e : Entry) → is_work e.call ≡ true → P e → e.reply ≡ reply.NoMemory) where
-  pub lost_or_called : (es : List Entry) → All IsOwn es → Has P es → Has IsLost es ⊎ Has P (own_of 0 es)
-  lost_or_called [] own h = absurd h
-  lost_or_called (e ∷ es) own (inl here) = go (is_work e.call) refl
+  pub lost_or_called : (n : ℕ) (es : List Entry) → All (IsOwn n) es → Has P es → Has IsLost es ⊎ Has P (own_of n es)
+  lost_or_called n [] own h = absurd h
+  lost_or_called n (e ∷ es) own (inl here) = go (is_work e.call) refl
     where
-      go : (w : Bool) → is_work e.call ≡ w → (IsLost e ⊎ Has IsLost es) ⊎ Has P (cond ((e.by == 0) && not (is_work e.call)) (e ∷ own_of 0 es) (own_of 0 es))
+      go : (w : Bool) → is_work e.call ≡ w → (IsLost e ⊎ Has IsLost es) ⊎ Has P (cond ((e.by == n) && not (is_work e.call)) (e ∷ own_of n es) (own_of n es))
       go true w = inl (inl (w, only_lost e w here))
-      go false w = rw (eq-eqb e.by 0 (All-head IsOwn e es own).by, w) (inr (inl here))
-  lost_or_called (e ∷ es) own (inr there) = elim (lost_or_called es (All-tail IsOwn e es own) there) [
+      go false w = rw (eq-eqb e.by n (All-head (IsOwn n) e es own).by, w) (inr (inl here))
+  lost_or_called n (e ∷ es) own (inr there) = elim (lost_or_called n es (All-tail (IsOwn n) e es own) there) [
     | inl lost ↦ inl (inr lost)
-    | inr called ↦ inr (go ((e.by == 0) && not (is_work e.call)) called)
+    | inr called ↦ inr (go ((e.by == n) && not (is_work e.call)) called)
   ]
     where
-      go : (b : Bool) → Has P (own_of 0 es) → Has P (cond b (e ∷ own_of 0 es) (own_of 0 es))
+      go : (b : Bool) → Has P (own_of n es) → Has P (cond b (e ∷ own_of n es) (own_of n es))
       go true h = inr h
       go false h = h
 
@@ -99,13 +99,13 @@ not_called ended bytes front rest own split same ends h = elim (shut_or_starved 
 ]
 
 -- so it was lost work
-pub lost_work : (seen entries : List Entry) (ended : Bool) (bytes : List ℕ) (front rest : List Item) → All IsOwn entries → Has Ends (seen ++ entries) → ¬ HasEnded seen
-    → items ended bytes ≡ front ++ rest → map (λ (e : Entry). e.call) (own_of 0 entries) ≡ calls front
-    → EndsBy (answers front (replies (own_of 0 entries))) (reply.Refused refusal.Dead) → HasLostWork entries
-lost_work seen entries ended bytes front rest own ends fresh split same by = elim (has_split Ends seen entries ends) [
+pub lost_work : (n : ℕ) (seen entries : List Entry) (ended : Bool) (bytes : List ℕ) (front rest : List Item) → All (IsOwn n) entries → Has Ends (seen ++ entries) → ¬ HasEnded seen
+    → items ended bytes ≡ front ++ rest → map (λ (e : Entry). e.call) (own_of n entries) ≡ calls front
+    → EndsBy (answers front (replies (own_of n entries))) (reply.Refused refusal.Dead) → HasLostWork entries
+lost_work n seen entries ended bytes front rest own ends fresh split same by = elim (has_split Ends seen entries ends) [
   | inl before ↦ absurd (fresh (has_contained Ends seen before))
-  | inr here ↦ elim (lost_or_called Ends ends_lost entries own here) [
+  | inr here ↦ elim (lost_or_called Ends ends_lost n entries own here) [
     | inl lost ↦ (let h = has_contained IsLost entries lost in (h.0, h.1, h.2.0, h.2.1))
-    | inr called ↦ absurd (not_called ended bytes front rest (own_of 0 entries) split same by called)
+    | inr called ↦ absurd (not_called ended bytes front rest (own_of n entries) split same by called)
   ]
 ]

@@ -48,12 +48,12 @@ unfolding tally_from
 tally_push [] e t = refl
 tally_push (x ∷ es) e t = tally_push es e (noted t x.call x.reply)
 
-pub tally_more : (es : List Noted) (history : List Entry) (i : ℕ) (x : Noted) → history_of es ≡ history → i < length es → x ≡ get_or es i x
+pub tally_more : (n : ℕ) (es : List Noted) (history : List Entry) (i : ℕ) (x : Noted) → history_of n es ≡ history → i < length es → x ≡ get_or es i x
     → tally_of (take (i + 1) history) ≡ noted (tally_of (take i history)) x.call x.reply
-tally_more es history i x same lt is =
-    let len : i < length history = subst (λ hs. i < length hs) same (subst (λ n. i < n) (sym (length-map es own)) lt) in
-    let at : get_or history i (own x) ≡ own x = ap (λ hs. get_or hs i (own x)) (sym same) ∙ get_or-map own es i x (own x) lt ∙ ap own (sym is) in
-    ap tally_of (take_more history i (own x) len ∙ ap (λ y. take i history ++ y ∷ []) at) ∙ tally_push (take i history) (own x) _
+tally_more n es history i x same lt is =
+    let len : i < length history = subst (λ hs. i < length hs) same (subst (λ m. i < m) (sym (length-map es (own n))) lt) in
+    let at : get_or history i (own n x) ≡ own n x = ap (λ hs. get_or hs i (own n x)) (sym same) ∙ get_or-map (own n) es i x (own n x) lt ∙ ap (own n) (sym is) in
+    ap tally_of (take_more history i (own n x) len ∙ ap (λ y. take i history ++ y ∷ []) at) ∙ tally_push (take i history) (own n x) _
 
 -- the items of a front of the bytes are a front of the items of all
 pub front_items : (stay : ItemsStay) (ended : Bool) (bytes rest : List ℕ) → (ended ≡ true → rest ≡ []) → (more : List Item) × (items ended bytes ++ more ≡ items ended (bytes ++ rest))
@@ -167,9 +167,9 @@ same_work (call.Work mark) = refl
 same_work other = refl
 
 -- the calls of a pass are all its entries but work
-own_without_work : (es : List Entry) → All IsOwn es → own_of 0 es ≡ without_work es
-own_without_work [] h = refl
-own_without_work (e ∷ es) h = rw (eq-eqb e.by 0 (All-head IsOwn e es h).by, same_work e.call, own_without_work es (All-tail IsOwn e es h)) refl
+own_without_work : (n : ℕ) (es : List Entry) → All (IsOwn n) es → own_of n es ≡ without_work es
+own_without_work n [] h = refl
+own_without_work n (e ∷ es) h = rw (eq-eqb e.by n (All-head (IsOwn n) e es h).by, same_work e.call, own_without_work n es (All-tail (IsOwn n) e es h)) refl
 
 abbrev AreLively : List Reply → Type 0
 AreLively rs = AllByRecursion IsLively rs
@@ -220,18 +220,29 @@ module _ (rounds : ℕ) (few : rounds ≤ 10000) (start end : World) (p q : Seen
   entered_mid : h.mid.history ≡ h.session.entries
   entered_mid = h.session.history ∙ ap (λ es. es ++ h.session.entries) new.history
 
-  kept : IsHistory h.mid.history
+  kept : IsHistory h.mid.number h.mid.history
   kept = kept_mid h.mid (standing q) shuts h.kept
 
-  calls_are : map (λ (e : Entry). e.call) (own_of 0 h.mid.history) ≡ script rounds
-  calls_are = ap (λ es. map (λ (e : Entry). e.call) (own_of 0 es)) entered_mid ∙ all_called rounds start end (standing p) h.mid stay read bye_last rest empty h.session
+  -- the pass keeps its number
+  kept_own : All (IsOwn p.number) h.mid.history
+  kept_own = subst (λ (n : ℕ). All (IsOwn n) h.mid.history) h.session.number kept.own
+
+  number_of : (s : Standing) → Shuts h.mid s → s.number ≡ h.mid.number
+  number_of s (inl shut) = shut.number
+  number_of s (inr none) = ap (λ (x : Standing). x.number) none.1
+
+  number_is : q.number ≡ p.number
+  number_is = number_of (standing q) shuts ∙ h.session.number
+
+  calls_are : map (λ (e : Entry). e.call) (own_of p.number h.mid.history) ≡ script rounds
+  calls_are = ap (λ es. map (λ (e : Entry). e.call) (own_of p.number es)) entered_mid ∙ all_called rounds start end (standing p) h.mid stay read bye_last rest empty h.session
 
   lively : AllByRecursion (λ (e : Entry). IsLively e.reply) (without_work h.mid.history)
   lively =
       let ends = h.session.served.ends.0 in
       let given = subst (AllByRecursion (λ (a : Answer). IsLively a.reply)) (sym ends.by.split) (lively_answers ends.by.before ends.by.last ends.by.quiet ends.by.is) in
-      let own = lively_entries (own_of 0 h.session.entries) (lively_replies h.session.served.front (replies (own_of 0 h.session.entries)) (replies_fit h.session.served.front (own_of 0 h.session.entries) h.session.served.calls_are) given) in
-      subst (AllByRecursion (λ (e : Entry). IsLively e.reply)) (ap (own_of 0) (sym entered_mid) ∙ own_without_work h.mid.history kept.own) own
+      let own = lively_entries (own_of p.number h.session.entries) (lively_replies h.session.served.front (replies (own_of p.number h.session.entries)) (replies_fit h.session.served.front (own_of p.number h.session.entries) h.session.served.calls_are) given) in
+      subst (AllByRecursion (λ (e : Entry). IsLively e.reply)) (ap (own_of p.number) (sym entered_mid) ∙ own_without_work p.number h.mid.history kept_own) own
 
   behind : IsBehind h.mid (standing q)
   behind = behind_of h.mid (standing q) shuts
@@ -240,7 +251,7 @@ module _ (rounds : ℕ) (few : rounds ≤ 10000) (start end : World) (p q : Seen
   plays = record {
     few = few;
     legal = subst IsLegal behind.1 h.kept.legal;
-    calls_are = ap (map (λ (e : Entry). e.call)) (sym (own_without_work h.mid.history kept.own)) ∙ calls_are;
+    calls_are = ap (map (λ (e : Entry). e.call)) (sym (own_without_work p.number h.mid.history kept_own)) ∙ calls_are;
     lively = lively;
   }
 
@@ -248,8 +259,8 @@ module _ (rounds : ℕ) (few : rounds ≤ 10000) (start end : World) (p q : Seen
   played_of = record {
     mid = h.mid.history;
     left = h.mid.left;
-    calls_are = calls_are;
-    shuts = let P : ℕ → Type 0 = λ n. Shuts (record { number = n; history = h.mid.history; left = h.mid.left }) (standing q) in subst P h.session.number shuts;
+    calls_are = subst (λ (n : ℕ). map (λ (e : Entry). e.call) (own_of n h.mid.history) ≡ script rounds) (sym number_is) calls_are;
+    shuts = let P : ℕ → Type 0 = λ n. Shuts (record { number = n; history = h.mid.history; left = h.mid.left }) (standing q) in subst P (sym (number_of (standing q) shuts)) shuts;
   }
 
   pub counted_of : VariablesAreTold → ClausesAreTaken → FewAreSat → FewAreUnsat → AreCounted rounds q

@@ -14,7 +14,7 @@ use Rattle.gi_net.specs.Served.{Ends}
 use Rattle.gi_net.specs.Session.{HasCause, Session}
 use Rattle.gi_net.specs.Standing.{Standing}
 use Rattle.gi_net.specs.Told.{TellsNoMemory}
-use Rattle.gi_net.proofs.Prompting.{ins_of_outs, outs_of_outs, prompt_outs}
+use Rattle.gi_net.proofs.Prompting.{ins_of_outs, outs_of_outs, prompt_outs, short_outs}
 
 takes_none : (a : Option (List ℕ)) (bytes : List ℕ) → bytes ≡ [] → Takes a a bytes
 takes_none None bytes e = refl
@@ -22,7 +22,7 @@ takes_none (Some xs) bytes e = rw e refl
 
 -- these bytes were written, and nothing else came of it
 silent : (v w : World) (s : Standing) (by : How) (bytes : List ℕ) (wrote : Wrote v w bytes)
-    → Ends by w.ended (length (ins (map Out wrote.pieces))) s.left [] (items w.ended (ins (map Out wrote.pieces))) bytes → HasCause by v w → Session v w s s by
+    → Ends by w.ended (length (ins (map Out wrote.pieces))) (s.left ≡ 0) [] (items w.ended (ins (map Out wrote.pieces))) bytes → HasCause by v w → Session v w s s by
 unfolding answers
 silent v w s by bytes wrote ends cause = record {
   added = map Out wrote.pieces;
@@ -39,9 +39,10 @@ silent v w s by bytes wrote ends cause = record {
     rest = items w.ended (ins (map Out wrote.pieces));
     split = refl;
     calls_are = refl;
-    ends = subst (Ends by w.ended (length (ins (map Out wrote.pieces))) s.left [] (items w.ended (ins (map Out wrote.pieces)))) (sym (outs_of_outs wrote.pieces ∙ wrote.joined)) ends;
+    ends = subst (Ends by w.ended (length (ins (map Out wrote.pieces))) (s.left ≡ 0) [] (items w.ended (ins (map Out wrote.pieces)))) (sym (outs_of_outs wrote.pieces ∙ wrote.joined)) ends;
   };
   prompt = prompt_outs [] [] [] wrote.pieces;
+  pieces = short_outs wrote.pieces;
   works = tt;
   cause = cause;
 }

@@ -67,8 +67,8 @@ Tells by other rounds old new es = ⊥
 pub record IsPlayed (rounds : ℕ) (after : Seen) : Type 0 where
   pub mid : List Entry
   pub left : ℕ
-  pub calls_are : map (λ (e : Entry). e.call) (own_of 0 mid) ≡ script rounds
-  pub shuts : Shuts (record { number = 0; history = mid; left = left }) (standing after)
+  pub calls_are : map (λ (e : Entry). e.call) (own_of after.number mid) ≡ script rounds
+  pub shuts : Shuts (record { number = after.number; history = mid; left = left }) (standing after)
 
 -- what is counted of a new machine: all variables, all clauses, at most two models, at most as many failures as rounds
 pub record AreCounted (rounds : ℕ) (after : Seen) : Type 0 where
@@ -87,7 +87,7 @@ pub record IsUndisturbed (by : Drilled) (rounds : ℕ) (old new : World) (after 
 -- the script was served on the pass, and its answers counted
 pub record HasDrilled (by : Drilled) (rounds : ℕ) (old new : World) (before after : Seen) : Type 0 where
   pub ends : Ends by rounds old new before after
-  pub kept : IsHistory after.history
+  pub kept : IsHistory after.number after.history
   pub played : IsNew before → by ≡ drilled.Done → IsPlayed rounds after
   pub counted : IsNew before → by ≡ drilled.Done → AreCounted rounds after
   pub whole : IsNew before → IsUndisturbed by rounds old new after → by ≡ drilled.Done

@@ -1,12 +1,10 @@
-pub mod Braking
 pub mod Seen
-pub mod Words
 pub mod Kept
 pub mod Passing
 pub mod Shutting
 pub mod Outcome
 pub mod Output
-pub mod Ranges
 pub mod Solving
 pub mod Drilling
 pub mod Performing
+pub mod Starting

@@ -25,7 +25,7 @@ pub record Hosts (old new : World) (before after : Standing) (by : How) : Type 0
   -- the link was written the answers to the calls that the history has grown by, each before the next read
   pub session : Session old new before mid by
   pub behind : Shuts mid after ⊎ HasNoRoom old new before mid after by
-  pub kept : IsHistory after.history
+  pub kept : IsHistory after.number after.history
   -- a call is refused for good only where the machine is over
   pub over : by ≡ how.Dead → HasEnded mid.history
   -- and where it wasn't before, only because the work for a wait found no memory

@@ -15,7 +15,8 @@ use Rattle.gi_tool.specs.Seen.{Seen, state_after}
 
 -- one entry more, which took a call and memory that was there
 pub record HasNoted (what : Call) (answer : Reply) (old new : Seen) : Type 0 where
-  pub history : new.history ≡ old.history ++ record { by = 0; call = what; reply = answer } ∷ []
+  pub number : new.number ≡ old.number
+  pub history : new.history ≡ old.history ++ record { by = old.number; call = what; reply = answer } ∷ []
   pub left : old.left ≡ new.left + 1
   pub room : old.room ≡ new.room + 1
 
@@ -28,10 +29,10 @@ pub record HasCalled (what : Call) (old new : Seen) : Type 0 where
 -- the history has grown by own work alone, and each entry took a call
 pub record HasWorked (old new : Standing) : Type 0 where
   pub works : List Entry
-  pub no_call : own_of 0 works ≡ []
+  pub no_call : own_of old.number works ≡ []
   pub number : new.number ≡ old.number
   pub history : new.history ≡ old.history ++ works
-  pub left : old.left ≡ new.left + length (all_own_of 0 works)
+  pub left : old.left ≡ new.left + length (all_own_of old.number works)
 
 -- so it has, and it has not grown at all but for a wait
 pub record WorkedFor (what : Call) (old new : Standing) : Type 0 where

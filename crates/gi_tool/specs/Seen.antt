@@ -6,22 +6,23 @@ use Rattle.gi_model.specs.declared.replies.Reply.{Reply}
 use Rattle.gi_net.specs.Standing.{Standing}
 use Rattle.gi_tool.specs.declared.entry.Entry.{Entry as Noted}
 
--- its history, how many calls it has left, and for how many more entries it has memory
+-- its number among the callers, its history, how many calls it has left, and for how many more entries it has memory
 pub record Seen : Type 0 where
+  pub number : ℕ
   pub history : List Entry
   pub left : ℕ
   pub room : ℕ
 
--- an entry of the machine's only caller, number 0
-abbrev pub own : Noted → Entry
-own e = record { by = 0; call = e.call; reply = e.reply }
+-- an entry of the caller with that number
+abbrev pub own : ℕ → Noted → Entry
+own number e = record { by = number; call = e.call; reply = e.reply }
 
-abbrev pub history_of : List Noted → List Entry
-history_of entries = map own entries
+abbrev pub history_of : ℕ → List Noted → List Entry
+history_of number entries = map (own number) entries
 
 -- as a caller of the machine
 abbrev pub standing : Seen → Standing
-standing p = record { number = 0; history = p.history; left = p.left }
+standing p = record { number = p.number; history = p.history; left = p.left }
 
 -- the reply of the last entry
 abbrev pub last_reply : List Entry → Option Reply

@@ -1,8 +1,9 @@
 -- How solving a file ends the program.
-use Rattle.std.specs.Prelude.{◌≡◌, ◌≢◌, ℕ, ◌<◌, ◌≤◌, ◌^◌, ◌⊎◌, true, false, List, [], ◌∷◌, ◌++◌, length}
+use Rattle.std.specs.Prelude.{◌≡◌, ◌≢◌, ℕ, ◌<◌, ◌≤◌, ◌^◌, ◌⊎◌, true, false, List, [], ◌∷◌, ◌++◌, length, Option, Some, None}
 use Rattle.gi_lit.specs.Truth.{Fail}
 use Rattle.gi_outside.specs.Link.{Rose}
 use Rattle.gi_outside.specs.World.{World}
+use Rattle.gi_dimacs.specs.declared.fault.CnfFault.{CnfFault}
 use Rattle.gi_files.specs.declared.form.Form.{Form}
 use Rattle.gi_model.specs.History.{Entry}
 use Rattle.gi_model.specs.declared.calls.Call.TheVariants as call
@@ -26,12 +27,17 @@ abbrev pub solved_status : Solved → ℕ
 solved_status solved.Sat = 10
 solved_status solved.Unsat = 20
 solved_status solved.Unknown = 0
-solved_status solved.Refused = 1
+solved_status (solved.Refused fault) = 1
 solved_status solved.NoMemory = 3
 solved_status solved.Denied = 3
 solved_status solved.ReadFault = 4
 solved_status solved.WriteFault = 5
 solved_status solved.TooMuch = 8
+
+-- the fault of an input that was refused
+abbrev pub solved_refusal : Solved → Option CnfFault
+solved_refusal (solved.Refused fault) = Some fault
+solved_refusal other = None
 
 -- a pass of a new machine, with no more calls than a new room gives
 pub record IsNew (p : Seen) : Type 0 where
@@ -74,13 +80,13 @@ pub record IsUndisturbed (by : Solved) (bytes : List ℕ) (old new : World) (aft
 
 -- every solve was answered, or the input was refused
 abbrev pub IsAnswered : Solved → Type 0
-IsAnswered by = (by ≡ solved.Sat) ⊎ (by ≡ solved.Unsat) ⊎ (by ≡ solved.Unknown) ⊎ (by ≡ solved.Refused)
+IsAnswered by = (by ≡ solved.Sat) ⊎ (by ≡ solved.Unsat) ⊎ (by ≡ solved.Unknown) ⊎ ((fault : CnfFault) × (by ≡ solved.Refused fault))
 
 -- the input was read, calls were made on the pass, and their output was written
 pub record HasSolved (by : Solved) (form : Form) (budget : ℕ) (old new : World) (before after : Seen) : Type 0 where
   pub solves : Solves by form budget old new (standing before) (standing after)
   -- the history is a legal one, and all its entries are the pass's own
-  pub kept : IsHistory after.history
+  pub kept : IsHistory after.number after.history
   pub truths : IsNew before → AreTrue budget after.history
   -- and the clauses and assumptions that they are true of are the file's
   pub asks : IsNew before → AreAsked form solves.bytes after.history
@@ -89,7 +95,8 @@ pub record HasSolved (by : Solved) (form : Form) (budget : ℕ) (old new : World
   pub whole : IsNew before → IsUndisturbed by solves.bytes old new after → IsAnswered by
 
 -- so it was, and the status tells how it ended
-pub record SolvesFile (form : Form) (budget : ℕ) (old new : World) (before after : Seen) (status : ℕ) : Type 0 where
+pub record SolvesFile (form : Form) (budget : ℕ) (old new : World) (before after : Seen) (status : ℕ) (refusal : Option CnfFault) : Type 0 where
   pub by : Solved
   pub has : HasSolved by form budget old new before after
   pub status_is : status ≡ solved_status by
+  pub refusal_is : refusal ≡ solved_refusal by

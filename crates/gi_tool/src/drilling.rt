@@ -5,11 +5,10 @@ ghost use Rattle.gi_tool.specs.Drilling.{HasDrilled, Tells, drilled_status};
 use crate::pass::Pass;
 use crate::serving::host;
 use gi_drill::{
-    Written, plan_satisfies, print_tally, script_is_read, script_is_short, script_is_taken,
-    write_script,
+    plan_satisfies, print_tally, script_is_read, script_is_short, script_is_taken, write_script,
 };
 use gi_net::How;
-use gi_outside::{Link, MemoryLink};
+use gi_outside::{Link, MemoryLink, Sent};
 use gi_wire::items_stay;
 use std::alloc::Global;
 
@@ -55,8 +54,8 @@ fn tell<L: Link>(how: How, rounds: u32, pass: &Pass, user: &mut L) -> Drilled
 {
     match how {
         How::Bye => match print_tally(rounds, &pass.tally(), user) {
-            Written::Whole => Drilled::Done,
-            Written::Cut => Drilled::Cut,
+            Sent::Done => Drilled::Done,
+            Sent::Failed => Drilled::Cut,
         },
         How::NoMemory | How::ReadFault | How::WriteFault => Drilled::NoMemory,
         How::TooMuch => Drilled::TooMuch,

@@ -1,13 +1,12 @@
 ghost use Rattle.std.specs.Prelude.{◌≡◌, ◌^◌, ◌+◌, ◌<◌, ◌≤◌, [], true, false, Some, IsSome, IfSome, IfNone, MatchBool};
 ghost use Rattle.gi_model.specs.Fits.{fits};
-ghost use Rattle.gi_model.specs.History.{MayCome};
 ghost use Rattle.gi_drill.specs.Counting.{tally_of};
-ghost use Rattle.gi_tool.specs.Seen.{last_reply, standing, state_after};
+ghost use Rattle.gi_tool.specs.Seen.{last_reply, standing};
 ghost use Rattle.gi_tool.specs.Kept.{IsHistory};
 ghost use Rattle.gi_tool.specs.Passing.{HasCalled, HasWorked, IsLive, Refuses, WorkedFor};
 
-use crate::brake::NoBrake;
 use crate::entry::Entry;
+use gi_cdcl::NoBrake;
 use gi_core::Core;
 use gi_drill::Tally;
 use gi_model::{Call, Phase, Reply};
@@ -33,9 +32,9 @@ impl Model for Pass {
 
     ghost Value = { Seen };
 
-    ghost view = { λ p. record { history = history_of p.entries.items; left = p.left; room = vec_capacity p.entries - length p.entries.items } };
+    ghost view = { λ p. record { number = 0; history = history_of 0 p.entries.items; left = p.left; room = vec_capacity p.entries - length p.entries.items } };
 
-    ghost invariant = { λ p. IsKept p.machine (history_of p.entries.items) };
+    ghost invariant = { λ p. IsKept 0 p.machine (history_of 0 p.entries.items) };
 }
 
 impl Pass {
@@ -68,11 +67,12 @@ impl Pass {
 
     /// Makes room for so many entries more. On `false` there is no memory, and the room is as it was.
     pub fn make_room(&mut self, more: usize) -> bool
+        ensures number { self.new.number ≡ self.old.number }
         ensures history { self.new.history ≡ self.old.history }
         ensures left { self.new.left ≡ self.old.left }
         ensures least { self.old.room ≤ self.new.room }
         ensures room { result ≡ true → more ≤ self.new.room }
-        ensures kept { IsHistory self.new.history }
+        ensures kept { IsHistory self.new.number self.new.history }
     {
         self.entries.reserve(more).is_ok()
     }
@@ -104,11 +104,11 @@ impl Pass {
     /// Makes a call, for whose entry there is room.
     pub fn make(&mut self, call: Call)
         requires fits { fits call ≡ true }
-        requires may_come { MayCome (state_after self.old.history) call }
+        requires may_come { call ≡ Call.Wait → ¬ IsLive self.old.history }
         requires left { 0 < self.old.left }
         requires room { 1 ≤ self.old.room }
         ensures called { HasCalled call self.old self.new }
-        ensures kept { IsHistory self.new.history }
+        ensures kept { IsHistory self.new.number self.new.history }
     {
         let reply = self.machine.step(&call);
         self.entries.push_reserved(Entry { call, reply });
@@ -155,7 +155,7 @@ impl Pass {
         requires fits { fits call.now ≡ true }
         ensures works { WorkedFor call.now (standing self.old) (standing self.new) }
         ensures cause { IfSome result (λ by. Refuses (Some by) self.new.left) }
-        ensures may_come { IfNone result (MayCome (state_after self.new.history) call.now) }
+        ensures may_come { IfNone result (call.now ≡ Call.Wait → ¬ IsLive self.new.history) }
         ensures room { 1 ≤ self.new.room }
     {
         match call {
@@ -170,7 +170,7 @@ impl Pass {
         requires fits { fits call.now ≡ true }
         ensures works { WorkedFor call.now (standing self.old) (standing self.new) }
         ensures cause { Refuses result self.new.left }
-        ensures may_come { IfNone result (MayCome (state_after self.new.history) call.now) }
+        ensures may_come { IfNone result (call.now ≡ Call.Wait → ¬ IsLive self.new.history) }
         ensures least { 1 ≤ self.new.room }
         ensures room { IfNone result (2 ≤ self.new.room) }
     {

@@ -1,27 +1,30 @@
-ghost use Rattle.std.specs.Prelude.{◌≡◌, ◌≢◌, ◌↔◌, None, map};
+ghost use Rattle.std.specs.Prelude.{◌≡◌, ◌≢◌, ◌⊎◌, ◌↔◌, None, IfSome, map};
 ghost use Rattle.std.specs.String.{string_bytes};
 ghost use Rattle.gi_outside.specs.Link.{Rose};
 ghost use Rattle.gi_files.specs.Completeness.{UndisturbedIsAnswered};
-ghost use Rattle.gi_tool.specs.Words.{command_of};
+ghost use Rattle.gi_command.specs.Ranges.{IsInRange};
+ghost use Rattle.gi_command.specs.Words.{command_of};
 ghost use Rattle.gi_tool.specs.Outcome.{exit_status};
-ghost use Rattle.gi_tool.specs.Output.{done_status};
-ghost use Rattle.gi_tool.specs.Performing.{Performs};
+ghost use Rattle.gi_tool.specs.Output.{done_refusal, done_status};
+ghost use Rattle.gi_tool.specs.Performing.{DoesWords, Performs};
 
-use crate::command::{Command, read_words};
 use crate::drilling::{drill, status_of_drill};
 use crate::pass::Pass;
 use crate::room::Room;
 use crate::serving::host;
-use crate::solving::{solve_file, status_of_solves};
+use crate::solving::{refusal_of_solves, solve_file, status_of_solves};
+use gi_command::{Command, read_words};
+use gi_dimacs::CnfFault;
 use gi_files::{Done, check, convert, undisturbed_is_answered};
 use gi_net::How;
 use gi_outside::Link;
 use std::alloc::Global;
 
-/// How the program ends: its exit status, and the pass that it was handed.
+/// How the program ends: its exit status, the fault of an input that was refused, and the pass that it was handed.
 #[derive(Drop)]
 pub struct Outcome {
     pub status: u8,
+    pub refusal: Option<CnfFault>,
     pub pass: Pass,
 }
 
@@ -40,9 +43,9 @@ pub struct Outcome {
 ///   counted, or the last solve of `solve` wasn't answered within its budget, or there was none;
 /// - 10 where the last solve was answered satisfiable, and 20 where it was answered unsatisfiable;
 /// - 1 where the input of `check`, `convert` or `solve` was refused;
-/// - 2 exactly where the words are no command; then nothing is read, written or called;
-/// - 3 for want of memory, in a drill for its script and its link too; and where the machine denied a call of `solve`, which
-///   a new machine does only where its work found no memory;
+/// - 2 only where the words are no command; then nothing is read, written or called;
+/// - 3 for want of memory: for the words, and then nothing was done, whatever they are; in a drill for its script and its link
+///   too; and where the machine denied a call of `solve`, which a new machine does only where its work found no memory;
 /// - 4 only where a read of `user` failed, and 5 only where a write did;
 /// - 8 where no call of the pass was left, or 2^62 bytes of `user` were taken;
 /// - 9 where a call of a session or of a drill was refused for good: the machine was over before, or its work for a wait
@@ -54,43 +57,92 @@ pub fn run<L: Link>(
     pass: Pass,
     user: &mut L,
 ) -> Outcome
-    ensures does { Performs (command_of (map (λ word. string_bytes word) words.now)) (L.state user.old) (L.state user.new) pass result.pass result.status }
-    ensures command { (result.status ≡ 2) ↔ (command_of (map (λ word. string_bytes word) words.now) ≡ None) }
+    ensures does { DoesWords (map (λ word. string_bytes word) words.now) (L.state user.old) (L.state user.new) pass result.pass
+        result.status result.refusal }
+    ensures no_command { result.status ≡ 2 → command_of (map (λ word. string_bytes word) words.now) ≡ None }
+    ensures two { command_of (map (λ word. string_bytes word) words.now) ≡ None → (result.status ≡ 2) ⊎ (result.status ≡ 3) }
     ensures read { result.status ≡ 4 → Rose (L.state user.old).failed_reads (L.state user.new).failed_reads }
     ensures write { result.status ≡ 5 → Rose (L.state user.old).failed_writes (L.state user.new).failed_writes }
 {
     let _ = room;
-    match read_words(words) {
-        None => Outcome { status: 2, pass },
-        Some(Command::Run) => {
+    match read_words(alloc, words) {
+        Ok(command) => perform(alloc, command, pass, user),
+        Err(_) => Outcome {
+            status: 3,
+            refusal: None,
+            pass,
+        },
+    }
+}
+
+/// Does what a command asks for; none changes nothing.
+fn perform<L: Link>(alloc: Global, command: Option<Command>, pass: Pass, user: &mut L) -> Outcome
+    requires { IfSome command IsInRange }
+    ensures does { Performs command (L.state user.old) (L.state user.new) pass result.pass result.status result.refusal }
+    ensures two { (result.status ≡ 2) ↔ (command ≡ None) }
+    ensures read { result.status ≡ 4 → Rose (L.state user.old).failed_reads (L.state user.new).failed_reads }
+    ensures write { result.status ≡ 5 → Rose (L.state user.old).failed_writes (L.state user.new).failed_writes }
+{
+    match command {
+        None => Outcome {
+            status: 2,
+            refusal: None,
+            pass,
+        },
+        Some(command) => obey(alloc, command, pass, user),
+    }
+}
+
+/// Does what a command asks for.
+fn obey<L: Link>(alloc: Global, command: Command, pass: Pass, user: &mut L) -> Outcome
+    requires { IsInRange command }
+    ensures does { Performs (Some command) (L.state user.old) (L.state user.new) pass result.pass result.status result.refusal }
+    ensures not_two { result.status ≢ 2 }
+    ensures read { result.status ≡ 4 → Rose (L.state user.old).failed_reads (L.state user.new).failed_reads }
+    ensures write { result.status ≡ 5 → Rose (L.state user.old).failed_writes (L.state user.new).failed_writes }
+{
+    match command {
+        Command::Run => {
             let (how, pass) = host(alloc, pass, user);
             Outcome {
                 status: status_of(how),
+                refusal: None,
                 pass,
             }
         }
-        Some(Command::Check(form)) => Outcome {
-            status: status_of_file(check(alloc, form, user)),
-            pass,
-        },
-        Some(Command::Convert(form)) => Outcome {
-            status: status_of_file(convert(alloc, form, user)),
-            pass,
-        },
-        Some(Command::Solve { form, budget }) => {
+        Command::Check(form) => file_outcome(check(alloc, form, user), pass),
+        Command::Convert(form) => file_outcome(convert(alloc, form, user), pass),
+        Command::Solve { form, budget } => {
             let (solved, pass) = solve_file(alloc, form, budget, pass, user);
             Outcome {
                 status: status_of_solves(solved),
+                refusal: refusal_of_solves(solved),
                 pass,
             }
         }
-        Some(Command::Drill(rounds)) => {
+        Command::Drill(rounds) => {
             let (drilled, pass) = drill(alloc, rounds, pass, user);
             Outcome {
                 status: status_of_drill(drilled),
+                refusal: None,
                 pass,
             }
         }
+    }
+}
+
+/// The end of `check` or `convert`, with the pass as it was.
+fn file_outcome(done: Done, pass: Pass) -> Outcome
+    ensures status { result.status ≡ done_status done }
+    ensures refusal { result.refusal ≡ done_refusal done }
+    ensures pass { result.pass ≡ pass }
+    ensures whole { UndisturbedIsAnswered }
+    ensures not_two { result.status ≢ 2 }
+{
+    Outcome {
+        status: status_of_file(done),
+        refusal: refusal_of_file(done),
+        pass,
     }
 }
 
@@ -120,7 +172,7 @@ fn status_of_file(done: Done) -> u8
     undisturbed_is_answered();
     match done {
         Done::Accepted => 0,
-        Done::Refused => 1,
+        Done::Refused(_) => 1,
         Done::NoMemory => 3,
         Done::ReadFault => 4,
         Done::WriteFault => 5,
@@ -128,16 +180,12 @@ fn status_of_file(done: Done) -> u8
     }
 }
 
-/// What a status means, for people: a text for 1 to 5, 8 and 9, and for every other status, as those of an answer, none.
-pub fn fault_text(status: u8) -> &'static str {
-    match status {
-        1 => "input refused",
-        2 => "unknown command",
-        3 => "out of memory",
-        4 => "read failed",
-        5 => "write failed",
-        8 => "too much",
-        9 => "room ended",
-        _ => "",
+/// The fault of an input that `check` or `convert` refused.
+fn refusal_of_file(done: Done) -> Option<CnfFault>
+    ensures { result ≡ done_refusal done }
+{
+    match done {
+        Done::Refused(fault) => Some(fault),
+        _ => None,
     }
 }

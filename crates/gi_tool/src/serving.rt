@@ -8,8 +8,8 @@ use crate::pass::Pass;
 use crate::visit::Visit;
 use gi_model::Reply;
 use gi_net::{How, serve_one};
-use gi_outside::Link;
-use gi_wire::{Sent, write_reply};
+use gi_outside::{Link, Sent};
+use gi_wire::write_reply;
 use std::alloc::Global;
 
 /// Serves one session, and then shuts the machine where a call is left. The memory for the entry of that call is taken

@@ -1,9 +1,10 @@
 // Files, solved on a pass.
 ghost use Rattle.std.specs.Prelude.{◌≡◌, ◌≢◌, ◌≤◌};
-ghost use Rattle.gi_tool.specs.Solving.{HasSolved, solved_status};
+ghost use Rattle.gi_tool.specs.Solving.{HasSolved, solved_refusal, solved_status};
 
 use crate::pass::Pass;
 use crate::visit::Visit;
+use gi_dimacs::CnfFault;
 use gi_files::Form;
 use gi_outside::Link;
 use gi_solving::{
@@ -48,10 +49,20 @@ pub fn status_of_solves(solved: Solved) -> u8
         Solved::Sat => 10,
         Solved::Unsat => 20,
         Solved::Unknown => 0,
-        Solved::Refused => 1,
+        Solved::Refused(_) => 1,
         Solved::NoMemory | Solved::Denied => 3,
         Solved::ReadFault => 4,
         Solved::WriteFault => 5,
         Solved::TooMuch => 8,
+    }
+}
+
+/// The fault of an input that was refused.
+pub fn refusal_of_solves(solved: Solved) -> Option<CnfFault>
+    ensures { result ≡ solved_refusal solved }
+{
+    match solved {
+        Solved::Refused(fault) => Some(fault),
+        _ => None,
     }
 }

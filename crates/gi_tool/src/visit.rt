@@ -29,7 +29,7 @@ impl Model for Visit {
 impl Visit {
     /// Begins a session on a pass. Where there is no memory for the entry of its shut, the pass comes back as it was.
     pub fn begin(mut pass: Pass) -> Result<Visit, Pass>
-        ensures begun { MatchResult result (λ visit. visit ≡ standing pass) (λ back. (standing back ≡ standing pass) × IsHistory back.history) }
+        ensures begun { MatchResult result (λ visit. visit ≡ standing pass) (λ back. (standing back ≡ standing pass) × IsHistory back.number back.history) }
     {
         if pass.make_room(1) {
             Ok(Visit { pass })
@@ -41,7 +41,7 @@ impl Visit {
     /// Leaves the pass as it is.
     pub fn leave(self) -> Pass
         ensures same { standing result ≡ self }
-        ensures kept { IsHistory result.history }
+        ensures kept { IsHistory result.number result.history }
     {
         self.pass
     }
@@ -49,7 +49,7 @@ impl Visit {
     /// Ends the session, and shuts the machine where a call is left.
     pub fn end(self) -> Pass
         ensures shut { Shuts self (standing result) }
-        ensures kept { IsHistory result.history }
+        ensures kept { IsHistory result.number result.history }
     {
         let mut pass = self.pass;
         if pass.calls_left() > 0 {

@@ -6,6 +6,6 @@ use Rattle.gi_tool.proofs.pass.Pass.tally.Goals as goal
 
 pub loop-entry-preserved : goal.loop-entry-preserved
 loop-entry-preserved c =
-    let same = ap history_of c.deref-entry-items.ensures.value ∙ ap (λ (s : Seen). s.history) c.self.view_is in
+    let same = ap (history_of 0) c.deref-entry-items.ensures.value ∙ ap (λ (s : Seen). s.history) c.self.view_is in
     c.note.ensures ∙ ap (λ t. noted t c.entry-item.result.call c.entry-item.result.reply) c.loop-entry.invariant
-    ∙ sym (tally_more c.deref-entry-items.result.now c.args.self.now.history c.loop-entry.entry-index c.entry-item.result same c.loop-entry-test.true c.entry-item.is)
+    ∙ sym (tally_more 0 c.deref-entry-items.result.now c.args.self.now.history c.loop-entry.entry-index c.entry-item.result same c.loop-entry-test.true c.entry-item.is)

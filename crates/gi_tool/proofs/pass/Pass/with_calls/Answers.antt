@@ -6,4 +6,4 @@ use Rattle.gi_tool.proofs.Keeping.{kept_opening}
 use Rattle.gi_tool.proofs.pass.Pass.with_calls.Goals as goal
 
 pub invariant_of-result : goal.invariant_of-result
-invariant_of-result c = subst (λ (es : List Noted). IsKept c.new.result (history_of es)) (sym c.new-2.ensures.items) (kept_opening c.new.result c.new.ensures)
+invariant_of-result c = subst (λ (es : List Noted). IsKept 0 c.new.result (history_of 0 es)) (sym c.new-2.ensures.items) (kept_opening 0 c.new.result c.new.ensures)

@@ -1,6 +1,0 @@
--- How often a brake was asked.
-use Rattle.std.specs.Prelude.{ℕ}
-use Rattle.gi_tool.specs.declared.brake.NoBrake.{NoBrake}
-
-abbrev pub asks_of : NoBrake → ℕ
-asks_of b = b.asks

@@ -1,2 +1,0 @@
-pub mod Braking
-pub mod Trying
