@@ -39,13 +39,19 @@ fn draw(seed: &mut u64, clause: &mut Lits) -> Result<u32, AllocError> {
     Ok(bits)
 }
 
+/// Draws a clause and attaches it; gives its bits.
+fn attach_one(alloc: Global, seed: &mut u64, parts: &mut Parts) -> Result<u32, AllocError> {
+    let mut clause = Lits::new(alloc);
+    let bits = draw(seed, &mut clause)?;
+    let _ = parts.attach(clause.as_slice())?;
+    Ok(bits)
+}
+
 /// Draws clauses and attaches them.
-fn attach_drawn(alloc: Global, seed: &mut u64, parts: &mut Parts) -> Result<Clauses, Fail> {
+fn attach_drawn(alloc: Global, seed: &mut u64, parts: &mut Parts) -> Result<Clauses, AllocError> {
     let mut clauses = [0; 8];
     for bits in clauses.iter_mut() {
-        let mut clause = Lits::new(alloc);
-        *bits = draw(seed, &mut clause)?;
-        parts.attach(clause.as_slice())?;
+        *bits = attach_one(alloc, seed, parts)?;
     }
     Ok(clauses)
 }
@@ -85,27 +91,43 @@ fn ends_with(trail: &Trail, conflict: Option<Key>, known: Option<u32>) -> bool {
     }
 }
 
-/// Whether drawn clauses conflict; an error where propagation ends otherwise than their unit closure.
-fn drawn_conflict(alloc: Global, seed: &mut u64) -> Result<bool, Fail> {
+/// Whether drawn clauses conflict; None where propagation ends otherwise than their unit closure.
+fn drawn_conflict(alloc: Global, seed: &mut u64) -> Result<Option<bool>, AllocError> {
     let mut parts = Parts::new(alloc, 5)?;
     let clauses = attach_drawn(alloc, seed, &mut parts)?;
     let known = closure(&clauses);
     let conflict = parts.propagate();
-    if !ends_with(parts.trail(), conflict, known) {
-        return Err("the unit closure".into());
+    Ok(if ends_with(parts.trail(), conflict, known) {
+        Some(known.is_none())
+    } else {
+        None
+    })
+}
+
+/// How many of 60 problems conflict; None where propagation ends otherwise than a unit closure.
+fn count_conflicts(alloc: Global) -> Result<Option<u32>, AllocError> {
+    let mut seed = 1;
+    let mut conflicts = 0u32;
+    for _ in 0..60 {
+        match drawn_conflict(alloc, &mut seed)? {
+            Some(true) => conflicts = conflicts.saturating_add(1),
+            Some(false) => {}
+            None => return Ok(None),
+        }
     }
-    Ok(known.is_none())
+    Ok(Some(conflicts))
+}
+
+/// Whether some of 60 problems conflict, and some don't.
+fn some_conflict(alloc: Global) -> Result<bool, AllocError> {
+    Ok(match count_conflicts(alloc)? {
+        Some(conflicts) => 0 < conflicts && conflicts < 60,
+        None => false,
+    })
 }
 
 #[test]
 fn propagation_is_the_unit_closure(rt: HostRuntime) -> Result<(), Fail> {
-    let mut seed = 1;
-    let mut conflicts = 0u64;
-    for _ in 0..60 {
-        if drawn_conflict(rt.alloc(), &mut seed)? {
-            conflicts = conflicts.saturating_add(1);
-        }
-    }
-    assert!(rt; 0 < conflicts && conflicts < 60);
+    assert!(rt; some_conflict(rt.alloc())?);
     Ok(())
 }

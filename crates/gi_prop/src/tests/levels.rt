@@ -5,37 +5,40 @@ ghost use Rattle.gi_prop.specs.Attached.{Attached, Goes};
 use crate::Trail;
 use gi_lit::Lit;
 use gi_store::Key;
-use std::alloc::Global;
+use std::alloc::{AllocError, Global};
 use std::test::Fail;
 
-/// Decides a literal of the trail.
-pub fn decide(trail: &mut Trail, number: i32) -> Result<(), Fail>
+/// Decides a literal of the trail. Whether it may be decided.
+pub fn decide(trail: &mut Trail, number: i32) -> bool
     ensures { (p : Attached) (s : Held) → Goes p s trail.old → Goes p s trail.new }
 {
-    let l = Lit::from_dimacs(number).ok_or("a literal")?;
+    let Some(l) = Lit::from_dimacs(number) else {
+        return false;
+    };
     if l.var().index() as usize > trail.vars() {
-        return Err("a variable of the trail".into());
+        return false;
     }
     match trail.value(l) {
-        None => trail.assign(l, None),
-        Some(_) => return Err("an unassigned literal".into()),
+        None => {
+            trail.assign(l, None);
+            true
+        }
+        Some(_) => false,
     }
-    Ok(())
 }
 
-fn push_level(trail: &mut Trail) -> Result<(), Fail> {
-    if trail.level() == u32::MAX {
-        return Err("a level below the last".into());
-    }
-    Ok(trail.push_level()?)
+/// Begins a level. Whether it may begin.
+fn push_level(trail: &mut Trail) -> bool {
+    trail.level() < u32::MAX && trail.push_level().is_ok()
 }
 
-fn cancel_to(trail: &mut Trail, level: u32) -> Result<(), Fail> {
+/// Takes the levels above this one away. Whether there is such a level.
+fn cancel_to(trail: &mut Trail, level: u32) -> bool {
     if level > trail.level() {
-        return Err("a level up to the present one".into());
+        return false;
     }
     trail.cancel_to(level);
-    Ok(())
+    true
 }
 
 /// Whether these are the literals of the trail.
@@ -76,7 +79,8 @@ enum Step {
     CancelTo(u32),
 }
 
-fn take(trail: &mut Trail, step: Step) -> Result<(), Fail> {
+/// Whether the step may be taken.
+fn take(trail: &mut Trail, step: Step) -> bool {
     match step {
         Step::Level => push_level(trail),
         Step::Decide(number) => decide(trail, number),
@@ -155,30 +159,37 @@ const ROWS: [Row; 7] = [
     },
 ];
 
-#[test]
-fn levels_come_and_go(rt: HostRuntime) -> Result<(), Fail> {
-    let mut trail = Trail::new(rt.alloc());
+/// The level of the first row that doesn't go as it says.
+fn first_wrong(alloc: Global) -> Result<Option<u32>, AllocError> {
+    let mut trail = Trail::new(alloc);
     trail.grow(2)?;
     for row in &ROWS {
-        take(&mut trail, row.step)?;
-        assert!(rt; is_as(&trail, row), "at level {}", row.level);
+        if !take(&mut trail, row.step) || !is_as(&trail, row) {
+            return Ok(Some(row.level));
+        }
     }
+    Ok(None)
+}
+
+#[test]
+fn levels_come_and_go(rt: HostRuntime) -> Result<(), Fail> {
+    assert_eq!(rt; first_wrong(rt.alloc())?, None);
     Ok(())
 }
 
-/// A trail of two variables with a decision below its first level.
-fn one_level(alloc: Global) -> Result<Trail, Fail> {
+/// Whether a level begins behind a decision, over no fewer variables than before.
+fn begins_behind(alloc: Global) -> Result<bool, AllocError> {
     let mut trail = Trail::new(alloc);
     trail.grow(2)?;
-    decide(&mut trail, 2)?;
-    push_level(&mut trail)?;
+    if !decide(&mut trail, 2) || !push_level(&mut trail) {
+        return Ok(false);
+    }
     trail.grow(1)?;
-    Ok(trail)
+    Ok(trail.level() > 0 && trail.start_of(0) == 1 && trail.vars() == 2)
 }
 
 #[test]
 fn a_level_begins_behind_the_literals(rt: HostRuntime) -> Result<(), Fail> {
-    let trail = one_level(rt.alloc())?;
-    assert!(rt; trail.level() > 0 && trail.start_of(0) == 1 && trail.vars() == 2);
+    assert!(rt; begins_behind(rt.alloc())?);
     Ok(())
 }

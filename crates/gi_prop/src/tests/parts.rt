@@ -1,16 +1,15 @@
 ghost use Rattle.std.specs.Prelude.{◌≡◌, ◌≢◌, ℕ, IfOk};
 ghost use Rattle.gi_prop.specs.Attached.{IsAttached, HasSameKeys};
 
-use crate::tests::levels::decide;
+use crate::tests::levels::{decide, is_trail};
 use crate::{Prop, Trail};
 use gi_lit::{Lit, Lits, MAX_VAR};
 use gi_store::{Key, Store};
 use std::alloc::{AllocError, Global};
 use std::marker::Model;
-use std::test::Fail;
 
 /// The literals that DIMACS writes as these numbers.
-pub fn lits(alloc: Global, numbers: &[i32]) -> Result<Lits, AllocError> {
+fn lits(alloc: Global, numbers: &[i32]) -> Result<Lits, AllocError> {
     let mut clause = Lits::new(alloc);
     for n in numbers {
         if let Some(l) = Lit::from_dimacs(*n) {
@@ -23,6 +22,7 @@ pub fn lits(alloc: Global, numbers: &[i32]) -> Result<Lits, AllocError> {
 /// A store, a trail over its variables, and a propagator that goes with both. Contracts see the propagator.
 #[derive(Drop)]
 pub struct Parts {
+    alloc: Global,
     store: Store,
     trail: Trail,
     prop: Prop,
@@ -39,16 +39,15 @@ impl Model for Parts {
 }
 
 impl Parts {
-    /// The variables are 1 to `vars`.
-    pub fn new(alloc: Global, vars: u32) -> Result<Parts, Fail> {
-        if vars > MAX_VAR {
-            return Err("variables of a store".into());
-        }
+    /// The variables are 1 to `vars`, as far as a store has them.
+    pub fn new(alloc: Global, vars: u32) -> Result<Parts, AllocError> {
+        let vars = vars.min(MAX_VAR);
         let mut store = Store::new(alloc);
         let mut trail = Trail::new(alloc);
         store.grow(vars)?;
         trail.grow(vars)?;
         Ok(Parts {
+            alloc,
             store,
             trail,
             prop: Prop::new(alloc),
@@ -60,46 +59,53 @@ impl Parts {
     }
 
     /// Stores a plain clause and attaches it.
-    pub fn attach(&mut self, clause: &[Lit]) -> Result<Key, Fail>
+    pub fn attach(&mut self, clause: &[Lit]) -> Result<Key, AllocError>
         ensures attached { IfOk result (λ key. IsAttached self.new key) }
         ensures fresh { IfOk result (λ key. ¬ IsAttached self.old key) }
         ensures kept { (k : ℕ) → IsAttached self.old k → IsAttached self.new k }
     {
         if !self.store.is_plain(clause) {
-            return Err("variables of the problem".into());
+            return Err(AllocError);
         }
         let key = self.store.add(clause)?;
         if self.store.vars() as usize > self.trail.vars()
             || !self.store.is_within(self.store.clause(key))
         {
-            return Err("variables of the trail".into());
+            return Err(AllocError);
         }
         self.prop.attach(&self.store, &self.trail, key)?;
         Ok(key)
     }
 
     /// Stores and attaches the clause that DIMACS writes as these numbers.
-    pub fn attach_numbers(&mut self, alloc: Global, numbers: &[i32]) -> Result<Key, Fail>
+    pub fn attach_numbers(&mut self, numbers: &[i32]) -> Result<Key, AllocError>
         ensures attached { IfOk result (λ key. IsAttached self.new key) }
         ensures fresh { IfOk result (λ key. ¬ IsAttached self.old key) }
         ensures kept { (k : ℕ) → IsAttached self.old k → IsAttached self.new k }
     {
-        let clause = lits(alloc, numbers)?;
+        let clause = lits(self.alloc, numbers)?;
         self.attach(clause.as_slice())
     }
 
     pub fn detach(&mut self, key: Key)
         requires { IsAttached self.old key }
-        ensures kept { (k : ℕ) → k ≢ key → IsAttached self.old k → IsAttached self.new k }
+        ensures { (k : ℕ) → k ≢ key → IsAttached self.old k → IsAttached self.new k }
     {
         self.prop.detach(key);
     }
 
-    /// Decides a literal of the trail.
-    pub fn decide(&mut self, number: i32) -> Result<(), Fail>
+    /// Decides a literal. Whether it may be decided.
+    pub fn decide(&mut self, number: i32) -> bool
         ensures { self.new ≡ self.old }
     {
         decide(&mut self.trail, number)
+    }
+
+    /// Whether propagation ends without a conflict, and with this trail.
+    pub fn closes(&mut self, numbers: &[i32]) -> bool
+        ensures { HasSameKeys self.old self.new }
+    {
+        self.propagate().is_none() && is_trail(&self.trail, numbers)
     }
 
     pub fn propagate(&mut self) -> Option<Key>

@@ -10,7 +10,7 @@ use Rattle.gi_prop.proofs.tests.parts.Parts.attach.Goals as goal
 -- a key in use stays so where a clause is added
 live_more : (s : Held) (key : ℕ) (c : List ℕ) (k : ℕ) (d : List ℕ) → Holds s k d → IsLive (with_plain key c s) k
 live_more s key c k d h =
-    let rest : List Entry = map full_entry s.pairs ++ s.learnt in
+    let rest : List Entry = map full_entry s.groups ++ s.learnt in
     let added : Entry = record { key = key; lits = c } in
     held_live (with_plain key c s) k d (elim (Contains-append_cases s.plain rest (record { key = k; lits = d }) h) [
       | inl a ↦ Contains-append_left (s.plain ++ added ∷ []) rest _ (Contains-append_left s.plain (added ∷ []) _ a)
