@@ -7,17 +7,43 @@ use gi_text::Bytes;
 use std::alloc::{AllocError, Global};
 use std::test::Fail;
 
+fn literal(word: &str) -> Option<Lit> {
+    match word.parse::<i32>() {
+        Ok(n) => Lit::from_dimacs(n),
+        Err(_) => None,
+    }
+}
+
 /// The literals that a text names, in DIMACS numbers.
 fn lits(alloc: Global, text: &str) -> Result<Lits, AllocError> {
     let mut lits = Lits::new(alloc);
     for word in text.split_whitespace() {
-        if let Ok(n) = word.parse::<i32>() {
-            if let Some(l) = Lit::from_dimacs(n) {
-                lits.push(l)?;
-            }
+        if let Some(l) = literal(word) {
+            lits.push(l)?;
         }
     }
     Ok(lits)
+}
+
+/// The first literal that a text names.
+fn first_lit(text: &str) -> Option<Lit> {
+    for word in text.split_whitespace() {
+        if let Some(l) = literal(word) {
+            return Some(l);
+        }
+    }
+    None
+}
+
+/// The guards that a text names.
+fn guards(alloc: Global, text: &str) -> Result<Guards, AllocError> {
+    let mut guards = Guards::new(alloc);
+    for word in text.split_whitespace() {
+        if let Some(l) = literal(word) {
+            guards.push(l.var())?;
+        }
+    }
+    Ok(guards)
 }
 
 /// The clauses of a text, one behind each colon.
@@ -27,6 +53,18 @@ fn clauses(alloc: Global, text: &str) -> Result<Clauses, AllocError> {
         clauses.push(lits(alloc, part)?)?;
     }
     Ok(clauses)
+}
+
+/// The values that make the literals of a text true, each that of the next variable.
+fn values(alloc: Global, text: &str) -> Result<Assign, AllocError> {
+    let lits = lits(alloc, text)?;
+    let mut values = Assign::falses(alloc, top_variable(lits.as_slice()))?;
+    for l in lits.as_slice() {
+        if l.var().index() <= values.len() {
+            values.set(l.var(), !l.is_negative());
+        }
+    }
+    Ok(values)
 }
 
 /// The first number that a text names, or 0.
@@ -47,45 +85,38 @@ fn parted<'a>(text: &'a str, mark: &str) -> (&'a str, &'a str) {
     }
 }
 
-/// A call or a reply in words.
-#[derive(Drop)]
+/// A call or a reply in words: all of it, its first word, and what stands before and behind the first colon.
+#[derive(Clone, Copy)]
 struct Said<'a> {
+    text: &'a str,
     word: &'a str,
-    // What stands before the first colon: its first number, and its literals.
-    number: u32,
-    lits: Lits,
-    // What stands behind it, all together and clause by clause.
-    second: u32,
-    behind: Lits,
-    clauses: Clauses,
+    head: &'a str,
+    tail: &'a str,
 }
 
-fn read_said<'a>(alloc: Global, text: &'a str) -> Result<Said<'a>, AllocError> {
+fn read_said<'a>(text: &'a str) -> Said<'a> {
     let (head, tail) = parted(text, ":");
-    Ok(Said {
+    Said {
+        text,
         word: parted(head, " ").0,
-        number: number(head),
-        lits: lits(alloc, head)?,
-        second: number(tail),
-        behind: lits(alloc, tail)?,
-        clauses: clauses(alloc, text)?,
-    })
+        head,
+        tail,
+    }
 }
 
-/// The call that edits, tests or starts a solve.
 fn call(alloc: Global, said: Said) -> Result<Option<Call>, AllocError> {
-    Ok(Some(match said.word {
-        "vars" => Call::Vars(said.number),
-        "add" => Call::Add(said.lits),
-        "guard" => Call::NewGuard,
-        "assume" => Call::Assume(said.lits),
-        "test" => Call::Test,
-        "untest" => Call::Untest,
-        "solve" => Call::Solve(said.number),
-        "under" => Call::Under(guards(alloc, &said.lits)?, said.behind),
-        "load" => Call::LoadCnf(file(alloc, said.number)?),
-        _ => return Ok(named(said)),
-    }))
+    match said.word {
+        "add" => Ok(Some(Call::Add(lits(alloc, said.head)?))),
+        "assume" => Ok(Some(Call::Assume(lits(alloc, said.head)?))),
+        "under" => under(alloc, said),
+        "load" => Ok(Some(Call::LoadCnf(file(alloc, number(said.head))?))),
+        _ => Ok(numbered(said)),
+    }
+}
+
+fn under(alloc: Global, said: Said) -> Result<Option<Call>, AllocError> {
+    let guards = guards(alloc, said.head)?;
+    Ok(Some(Call::Under(guards, lits(alloc, said.tail)?)))
 }
 
 fn file(alloc: Global, place: u32) -> Result<Bytes, AllocError> {
@@ -95,33 +126,25 @@ fn file(alloc: Global, place: u32) -> Result<Bytes, AllocError> {
     }
 }
 
-/// The guards that these literals name.
-fn guards(alloc: Global, lits: &Lits) -> Result<Guards, AllocError> {
-    let mut guards = Guards::new(alloc);
-    for l in lits.as_slice() {
-        guards.push(l.var())?;
-    }
-    Ok(guards)
-}
-
-/// The call that names a guard or a literal.
-fn named(said: Said) -> Option<Call> {
+/// The call that names a number, a guard or a literal.
+fn numbered(said: Said) -> Option<Call> {
+    let n = number(said.head);
     match said.word {
-        "drop" => match Var::new(said.number) {
-            Some(g) => Some(Call::DropGuard(g)),
-            None => None,
-        },
-        "reasons" => match said.lits.as_slice().first() {
-            Some(m) => Some(Call::Reasons(*m)),
-            None => None,
-        },
-        word => solving(word, said.number),
+        "vars" => Some(Call::Vars(n)),
+        "drop" => Some(Call::DropGuard(Var::new(n)?)),
+        "reasons" => Some(Call::Reasons(first_lit(said.head)?)),
+        "solve" => Some(Call::Solve(n)),
+        "clause" => Some(Call::KnownClause(n)),
+        "work" => Some(Call::Work(n as u64)),
+        word => named(word),
     }
 }
 
-/// The calls that speak of a solve, and the last ones.
-fn solving(word: &str, n: u32) -> Option<Call> {
+fn named(word: &str) -> Option<Call> {
     match word {
+        "guard" => Some(Call::NewGuard),
+        "test" => Some(Call::Test),
+        "untest" => Some(Call::Untest),
         "pause" => Some(Call::Pause),
         "resume" => Some(Call::Resume),
         "stop" => Some(Call::Stop),
@@ -129,86 +152,83 @@ fn solving(word: &str, n: u32) -> Option<Call> {
         "wait" => Some(Call::Wait),
         "model" => Some(Call::Model),
         "known" => Some(Call::Known),
-        "clause" => Some(Call::KnownClause(n)),
         "bye" => Some(Call::Bye),
         "shut" => Some(Call::Shut),
-        "work" => Some(Call::Work(n as u64)),
         _ => None,
     }
 }
 
-/// The reply with a list.
 fn reply(alloc: Global, said: Said) -> Result<Option<Reply>, AllocError> {
-    Ok(Some(match said.word {
-        "implied" => Reply::Implied(said.lits),
-        "failed" => Reply::Failed(said.lits),
-        "reasons" => Reply::Reasons(said.lits),
-        "unsat" => Reply::Unsat {
-            serial: said.number as u64,
-            failed: said.behind,
-        },
-        "model" => Reply::Model(said.lits),
-        "clause" => Reply::Clause(said.lits),
-        "found" => Reply::Worked {
-            now: Now::Ended(Verdict::Sat(values(alloc, &said.lits)?)),
-            news: said.clauses,
-        },
-        "fails" => Reply::Worked {
-            now: Now::Ended(Verdict::Unsat(said.lits)),
-            news: said.clauses,
-        },
-        _ => return Ok(worked(said)),
-    }))
-}
-
-/// The reply to a slice that finds nothing.
-fn worked(said: Said) -> Option<Reply> {
-    let n = said.number;
     match said.word {
-        "live" => Some(Reply::Worked {
-            now: Now::Live,
-            news: said.clauses,
-        }),
-        "halted" => Some(Reply::Worked {
-            now: Now::Ended(Verdict::Unknown(Cause::Stopped(n as u64))),
-            news: said.clauses,
-        }),
-        "exhausted" => Some(Reply::Worked {
-            now: Now::Ended(Verdict::Unknown(Cause::Budget(n))),
-            news: said.clauses,
-        }),
-        word => short(word, n, said.second),
+        "implied" => Ok(Some(Reply::Implied(lits(alloc, said.head)?))),
+        "failed" => Ok(Some(Reply::Failed(lits(alloc, said.head)?))),
+        "reasons" => Ok(Some(Reply::Reasons(lits(alloc, said.head)?))),
+        "model" => Ok(Some(Reply::Model(lits(alloc, said.head)?))),
+        "clause" => Ok(Some(Reply::Clause(lits(alloc, said.head)?))),
+        "unsat" => Ok(Some(Reply::Unsat {
+            serial: number(said.head) as u64,
+            failed: lits(alloc, said.tail)?,
+        })),
+        _ => worked(alloc, said),
     }
 }
 
+/// The reply to a slice of work, or a reply without a list.
+fn worked(alloc: Global, said: Said) -> Result<Option<Reply>, AllocError> {
+    match left(alloc, said)? {
+        Some(now) => Ok(Some(Reply::Worked {
+            news: clauses(alloc, said.text)?,
+            now,
+        })),
+        None => Ok(short(said)),
+    }
+}
+
+/// How a slice leaves its solve.
+fn left(alloc: Global, said: Said) -> Result<Option<Now>, AllocError> {
+    let n = number(said.head);
+    match said.word {
+        "live" => Ok(Some(Now::Live)),
+        "found" => Ok(Some(Now::Ended(Verdict::Sat(values(alloc, said.head)?)))),
+        "fails" => Ok(Some(Now::Ended(Verdict::Unsat(lits(alloc, said.head)?)))),
+        "halted" => Ok(Some(unknown(Cause::Stopped(n as u64)))),
+        "exhausted" => Ok(Some(unknown(Cause::Budget(n)))),
+        _ => Ok(None),
+    }
+}
+
+fn unknown(cause: Cause) -> Now {
+    Now::Ended(Verdict::Unknown(cause))
+}
+
 /// The replies without a list.
-fn short(word: &str, n: u32, second: u32) -> Option<Reply> {
-    match word {
+fn short(said: Said) -> Option<Reply> {
+    let n = number(said.head);
+    match said.word {
         "ok" => Some(Reply::Done),
         "vars" => Some(Reply::Vars(n)),
-        "guard" => match Var::new(n) {
-            Some(g) => Some(Reply::Guard(g)),
-            None => None,
-        },
+        "guard" => Some(Reply::Guard(Var::new(n)?)),
         "started" => Some(Reply::Started(n as u64)),
         "known" => Some(Reply::Known(n as u64)),
         "loaded" => Some(Reply::LoadedCnf {
             vars: n,
-            clauses: second,
+            clauses: number(said.tail),
         }),
         "bye" => Some(Reply::Bye),
         "idle" => Some(Reply::Idle),
         "nomem" => Some(Reply::NoMemory),
-        _ => match refusal(word, n) {
-            Some(refusal) => Some(Reply::Refused(refusal)),
-            None => match status(word, second) {
-                Some(status) => Some(Reply::Status {
-                    serial: n as u64,
-                    status,
-                }),
-                None => None,
-            },
-        },
+        _ => standing(said, n),
+    }
+}
+
+/// A refusal, or how a solve stands.
+fn standing(said: Said, n: u32) -> Option<Reply> {
+    match refusal(said.word, n) {
+        Some(refusal) => Some(Reply::Refused(refusal)),
+        None => Some(Reply::Status {
+            serial: n as u64,
+            status: status(said.word, number(said.tail))?,
+        }),
     }
 }
 
@@ -258,41 +278,40 @@ fn refused(n: u32) -> Option<Refusal> {
     }
 }
 
-/// The values that make the literals true, each that of the next variable.
-fn values(alloc: Global, lits: &Lits) -> Result<Assign, AllocError> {
-    let mut values = Assign::falses(alloc, top_variable(lits.as_slice()))?;
-    for l in lits.as_slice() {
-        if l.var().index() <= values.len() {
-            values.set(l.var(), !l.is_negative());
-        }
-    }
-    Ok(values)
-}
-
-/// Whether the machine allows the entry, and follows it then.
+/// Whether the machine allows the entry, and follows it then; none where it can't be read.
 fn takes(alloc: Global, plain: &mut Plain, entry: &str) -> Result<Option<bool>, AllocError> {
     let (asked, answered) = parted(entry, " = ");
-    match (
-        call(alloc, read_said(alloc, asked)?)?,
-        reply(alloc, read_said(alloc, answered)?)?,
-    ) {
-        (Some(call), Some(reply)) => Ok(Some(plain.step(&call, &reply)?)),
-        _ => Ok(None),
+    match call(alloc, read_said(asked))? {
+        Some(call) => answers(alloc, plain, &call, answered),
+        None => Ok(None),
+    }
+}
+
+fn answers(
+    alloc: Global,
+    plain: &mut Plain,
+    call: &Call,
+    answered: &str,
+) -> Result<Option<bool>, AllocError> {
+    match reply(alloc, read_said(answered))? {
+        Some(reply) => Ok(Some(plain.step(call, &reply)?)),
+        None => Ok(None),
     }
 }
 
 /// Whether the machine says of an entry what its line does.
 fn agrees(alloc: Global, plain: &mut Plain, line: &str) -> Result<bool, AllocError> {
-    Ok(match line.strip_prefix("!") {
-        Some(entry) => takes(alloc, plain, entry)? == Some(false),
-        None => takes(alloc, plain, line)? == Some(true),
-    })
+    let (entry, allowed) = match line.strip_prefix("!") {
+        Some(entry) => (entry, false),
+        None => (line, true),
+    };
+    Ok(takes(alloc, plain, entry)? == Some(allowed))
 }
 
-/// The first line at which a machine says otherwise.
-fn stray(alloc: Global) -> Result<Option<&'static str>, AllocError> {
+/// The first line of a transcript at which a machine says otherwise.
+fn stray(alloc: Global, transcript: &'static str) -> Result<Option<&'static str>, AllocError> {
     let mut plain = Plain::new(alloc);
-    for line in ENTRIES.lines() {
+    for line in transcript.lines() {
         if line.starts_with("#") {
             plain = Plain::new(alloc);
         } else if !agrees(alloc, &mut plain, line)? {
@@ -304,7 +323,7 @@ fn stray(alloc: Global) -> Result<Option<&'static str>, AllocError> {
 
 #[test]
 fn entries(rt: HostRuntime) -> Result<(), Fail> {
-    assert_eq!(rt; stray(rt.alloc())?, None);
+    assert_eq!(rt; stray(rt.alloc(), ENTRIES)?, None);
     Ok(())
 }
 
