@@ -38,6 +38,7 @@ use Rattle.gi_aiger.proofs.Pairing.{Owns, AreSmall, gates_there}
 use Rattle.gi_aiger.proofs.Numbering.{AreFrom, from_left, from_right, from_evens, evens_from, evens_length}
 use Rattle.gi_aiger.proofs.Knowing.{latch_in, gate_in, input_in, define_all, unknown, few_missing}
 use Rattle.gi_aiger.proofs.Sounding.{defining_in, size_in, defining_all, latches_all, gates_all, sizes_all, sum_lengths, others_of, others_plain, latches_takes, gates_takes, sizes_takes, marks_takes, each_at, each_right, Low, in_range, sum_flat, sum_none, sum_ones, variables_are}
+use Rattle.gi_aiger.specs.Limits.{most_items}
 
 -- a sound value's rows are in range
 pub sound_range : (v : Aig) → IsSound v → (before : List Row) (r : Row) (later : List Row) → rows_of v ≡ before ++ r ∷ later → (t : Taken) → t.total ≡ 0 + sum_by size_in before → InRange v.max (room t) r
@@ -221,7 +222,7 @@ owns_there h (g ∷ gs) t from =
     let e : h.inputs + h.latches + length t.gates + 1 ≡ h.inputs + h.latches + length (t.gates ++ g ∷ []) = omega (arith, length-append t.gates (g ∷ [])) in
     (from.0, owns_there h gs (with_row t (rows.Gate g)) (subst (λ (n : ℕ). AreFrom n (map (λ g. g.lhs) gs)) e from.1))
 
-small_gates : (max : ℕ) (gs : List AndGate) → max ≤ 1048576 → AllByRecursion (IsDefining max) (map (λ g. g.lhs) gs) → AreSmall gs
+small_gates : (max : ℕ) (gs : List AndGate) → max ≤ most_items → AllByRecursion (IsDefining max) (map (λ g. g.lhs) gs) → AreSmall gs
 small_gates max [] le all = tt
 small_gates max (g ∷ gs) le all = (omega (arith, le, all.0.2), small_gates max gs le all.1)
 
@@ -262,7 +263,7 @@ binary_read v bytes a =
     let inputs : v.inputs ≡ evens (length v.inputs) = from_evens v.inputs (from_left 0 v.inputs lits (from_left 0 (v.inputs ++ lits) lhss from)) in
     let stands = state_by Binary mids (begin h) (mid_lists v) in
     let within = header_within (bare a.head) h a.header in
-    let small : v.max ≤ 1048576 = first_within h within in
+    let small : v.max ≤ most_items = first_within h within in
     let defining = each_right (IsDefining v.max) (v.inputs ++ lits) lhss (recursion_from_All (IsDefining v.max) (defining_literals v) a.sound.defining) in
     let place : 0 + length (v.inputs ++ lits) ≡ length v.inputs + length v.latches + length {A = AndGate} [] = omega (arith, length-append v.inputs lits, length-map v.latches (λ (l : Latch). l.lit)) in
     let owns : Owns h stands v.gates = owns_there h v.gates stands (subst (λ (n : ℕ). AreFrom n lhss) place (from_right 0 (v.inputs ++ lits) lhss from)) in
@@ -281,19 +282,19 @@ binary_read v bytes a =
       both true b h = (refl, h)
       both false b h = absurd cc
 
-      low : (n : ℕ) → nat_le n 1048576 ≡ true → n ≤ 1048576
+      low : (n : ℕ) → nat_le n most_items ≡ true → n ≤ most_items
       low n t = grind (arith, nat_tests, t)
 
-      first_within : (h : Head) → is_within h ≡ true → h.max ≤ 1048576
+      first_within : (h : Head) → is_within h ≡ true → h.max ≤ most_items
       first_within h t = low h.max (
-          both (nat_le h.max 1048576) (nat_le h.inputs 1048576) (
-          both (nat_le h.max 1048576 && nat_le h.inputs 1048576) (nat_le h.latches 1048576) (
-          both (nat_le h.max 1048576 && nat_le h.inputs 1048576 && nat_le h.latches 1048576) (nat_le h.outs 1048576) (
-          both (nat_le h.max 1048576 && nat_le h.inputs 1048576 && nat_le h.latches 1048576 && nat_le h.outs 1048576) (nat_le h.gates 1048576) (
-          both (nat_le h.max 1048576 && nat_le h.inputs 1048576 && nat_le h.latches 1048576 && nat_le h.outs 1048576 && nat_le h.gates 1048576) (nat_le h.bads 1048576) (
-          both (nat_le h.max 1048576 && nat_le h.inputs 1048576 && nat_le h.latches 1048576 && nat_le h.outs 1048576 && nat_le h.gates 1048576 && nat_le h.bads 1048576) (nat_le h.cons 1048576) (
-          both (nat_le h.max 1048576 && nat_le h.inputs 1048576 && nat_le h.latches 1048576 && nat_le h.outs 1048576 && nat_le h.gates 1048576 && nat_le h.bads 1048576 && nat_le h.cons 1048576) (nat_le h.justice 1048576) (
-          both (nat_le h.max 1048576 && nat_le h.inputs 1048576 && nat_le h.latches 1048576 && nat_le h.outs 1048576 && nat_le h.gates 1048576 && nat_le h.bads 1048576 && nat_le h.cons 1048576 && nat_le h.justice 1048576) (nat_le h.fair 1048576) t
+          both (nat_le h.max most_items) (nat_le h.inputs most_items) (
+          both (nat_le h.max most_items && nat_le h.inputs most_items) (nat_le h.latches most_items) (
+          both (nat_le h.max most_items && nat_le h.inputs most_items && nat_le h.latches most_items) (nat_le h.outs most_items) (
+          both (nat_le h.max most_items && nat_le h.inputs most_items && nat_le h.latches most_items && nat_le h.outs most_items) (nat_le h.gates most_items) (
+          both (nat_le h.max most_items && nat_le h.inputs most_items && nat_le h.latches most_items && nat_le h.outs most_items && nat_le h.gates most_items) (nat_le h.bads most_items) (
+          both (nat_le h.max most_items && nat_le h.inputs most_items && nat_le h.latches most_items && nat_le h.outs most_items && nat_le h.gates most_items && nat_le h.bads most_items) (nat_le h.cons most_items) (
+          both (nat_le h.max most_items && nat_le h.inputs most_items && nat_le h.latches most_items && nat_le h.outs most_items && nat_le h.gates most_items && nat_le h.bads most_items && nat_le h.cons most_items) (nat_le h.justice most_items) (
+          both (nat_le h.max most_items && nat_le h.inputs most_items && nat_le h.latches most_items && nat_le h.outs most_items && nat_le h.gates most_items && nat_le h.bads most_items && nat_le h.cons most_items && nat_le h.justice most_items) (nat_le h.fair most_items) t
           ).0
           ).0
           ).0

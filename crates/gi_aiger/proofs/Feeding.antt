@@ -29,6 +29,7 @@ use Rattle.gi_aiger.proofs.Lining.{AreLines, IsPlain, plain_head, lines_are, joi
 use Rattle.gi_aiger.proofs.Pairing.{Owns, AreSmall, gates_there, gates_through}
 use Rattle.gi_aiger.proofs.Putting.{takes}
 use Rattle.gi_aiger.proofs.Wording.{one_line}
+use Rattle.gi_aiger.specs.Limits.{most_items}
 
 -- how many LF bytes there are
 feeds_yes : (x : ℕ) (xs : List ℕ) → (x == 10) ≡ true → line_feeds (x ∷ xs) ≡ suc (line_feeds xs)
@@ -148,21 +149,21 @@ small_owned : (h : Head) (t : Taken) (gs : List AndGate) → 2 * (h.inputs + h.l
 small_owned h t [] lt owns = tt
 small_owned h t (g ∷ gs) lt owns = (omega (arith, lt, owns.0), small_owned h (with_row t (rows.Gate g)) gs (omega (arith, lt, length-append t.gates (g ∷ []))) owns.1)
 
-within_small : (h : Head) → is_within h ≡ true → (h.inputs ≤ 1048576) × (h.latches ≤ 1048576) × (h.gates ≤ 1048576)
+within_small : (h : Head) → is_within h ≡ true → (h.inputs ≤ most_items) × (h.latches ≤ most_items) × (h.gates ≤ most_items)
 within_small h t =
-    let a7 = both (nat_le h.max 1048576 && nat_le h.inputs 1048576 && nat_le h.latches 1048576 && nat_le h.outs 1048576 && nat_le h.gates 1048576 && nat_le h.bads 1048576 && nat_le h.cons 1048576 && nat_le h.justice 1048576) (nat_le h.fair 1048576) t in
-    let a6 = both (nat_le h.max 1048576 && nat_le h.inputs 1048576 && nat_le h.latches 1048576 && nat_le h.outs 1048576 && nat_le h.gates 1048576 && nat_le h.bads 1048576 && nat_le h.cons 1048576) (nat_le h.justice 1048576) a7.0 in
-    let a5 = both (nat_le h.max 1048576 && nat_le h.inputs 1048576 && nat_le h.latches 1048576 && nat_le h.outs 1048576 && nat_le h.gates 1048576 && nat_le h.bads 1048576) (nat_le h.cons 1048576) a6.0 in
-    let a4 = both (nat_le h.max 1048576 && nat_le h.inputs 1048576 && nat_le h.latches 1048576 && nat_le h.outs 1048576 && nat_le h.gates 1048576) (nat_le h.bads 1048576) a5.0 in
-    let a3 = both (nat_le h.max 1048576 && nat_le h.inputs 1048576 && nat_le h.latches 1048576 && nat_le h.outs 1048576) (nat_le h.gates 1048576) a4.0 in
-    let a2 = both (nat_le h.max 1048576 && nat_le h.inputs 1048576 && nat_le h.latches 1048576) (nat_le h.outs 1048576) a3.0 in
-    let a1 = both (nat_le h.max 1048576 && nat_le h.inputs 1048576) (nat_le h.latches 1048576) a2.0 in
-    (low h.inputs (both (nat_le h.max 1048576) (nat_le h.inputs 1048576) a1.0).1, low h.latches a1.1, low h.gates a3.1) where
+    let a7 = both (nat_le h.max most_items && nat_le h.inputs most_items && nat_le h.latches most_items && nat_le h.outs most_items && nat_le h.gates most_items && nat_le h.bads most_items && nat_le h.cons most_items && nat_le h.justice most_items) (nat_le h.fair most_items) t in
+    let a6 = both (nat_le h.max most_items && nat_le h.inputs most_items && nat_le h.latches most_items && nat_le h.outs most_items && nat_le h.gates most_items && nat_le h.bads most_items && nat_le h.cons most_items) (nat_le h.justice most_items) a7.0 in
+    let a5 = both (nat_le h.max most_items && nat_le h.inputs most_items && nat_le h.latches most_items && nat_le h.outs most_items && nat_le h.gates most_items && nat_le h.bads most_items) (nat_le h.cons most_items) a6.0 in
+    let a4 = both (nat_le h.max most_items && nat_le h.inputs most_items && nat_le h.latches most_items && nat_le h.outs most_items && nat_le h.gates most_items) (nat_le h.bads most_items) a5.0 in
+    let a3 = both (nat_le h.max most_items && nat_le h.inputs most_items && nat_le h.latches most_items && nat_le h.outs most_items) (nat_le h.gates most_items) a4.0 in
+    let a2 = both (nat_le h.max most_items && nat_le h.inputs most_items && nat_le h.latches most_items) (nat_le h.outs most_items) a3.0 in
+    let a1 = both (nat_le h.max most_items && nat_le h.inputs most_items) (nat_le h.latches most_items) a2.0 in
+    (low h.inputs (both (nat_le h.max most_items) (nat_le h.inputs most_items) a1.0).1, low h.latches a1.1, low h.gates a3.1) where
       both : (a b : Bool) → (a && b) ≡ true → (a ≡ true) × (b ≡ true)
       both true b h = (refl, h)
       both false b h = absurd cc
 
-      low : (n : ℕ) → nat_le n 1048576 ≡ true → n ≤ 1048576
+      low : (n : ℕ) → nat_le n most_items ≡ true → n ≤ most_items
       low n t = grind (arith, nat_tests, t)
 
 takes_gates : (t : Taken) (gs : List AndGate) → (takes Binary t (map rows.Gate gs)).gates ≡ t.gates ++ gs
@@ -200,7 +201,7 @@ gates_behind gates h small more v n k t ls lines ok = λ f p e.
     ap (λ (bs : List ℕ). (read_gates h k c t bs).gates) w.split ∙ ap (λ (told : Told). told.gates) (through w.rest) ∙ symbols_gates h k stands [] (lines_of w.rest) ∙ takes_gates t w.gates in
     let feeds : line_feeds w.front ≤ line_feeds gates = later_feeds t.gates w.gates gates w.front (subst (λ (gs : List AndGate). AreGates gs gates) all p.2) w.are in
     by_rest f (line_feeds w.front) feeds (gates_later h k c t (joined ls)) e w.front w.rest stands w.split refl w.read through where
-      smalls : (h : Head) (t : Taken) (gs : List AndGate) → h.inputs ≤ 1048576 → h.latches ≤ 1048576 → h.gates ≤ 1048576 → length gs ≡ h.gates - length t.gates → Owns h t gs → AreSmall gs
+      smalls : (h : Head) (t : Taken) (gs : List AndGate) → h.inputs ≤ most_items → h.latches ≤ most_items → h.gates ≤ most_items → length gs ≡ h.gates - length t.gates → Owns h t gs → AreSmall gs
       smalls h t [] i l g count owns = tt
       smalls h t (x ∷ gs) i l g count owns = small_owned h t (x ∷ gs) (omega (arith, i, l, g, count)) owns
 

@@ -7,6 +7,7 @@ use Rattle.gi_aiger.specs.declared.head.Form.{Form}
 use Rattle.gi_aiger.specs.declared.head.Head.{Head}
 use Rattle.gi_aiger.specs.Fields.{capped, Keeps, numbers_at}
 use Rattle.gi_aiger.specs.Header.{head_of, is_fitting, is_tried, is_wrong, is_within, judge_head, has_head, head_numbers, head_parts}
+use Rattle.gi_aiger.specs.Limits.{most_items}
 
 -- a header's numbers, each up to the cap
 abbrev cap_head : Head → Head
@@ -42,7 +43,7 @@ tried_same : (h : Head) → is_tried (cap_head h) ≡ is_tried h
 tried_same h = rw (cap_le h.max 4294967295 (omega arith), cap_le h.inputs 4294967295 (omega arith), cap_le h.latches 4294967295 (omega arith), cap_le h.gates 4294967295 (omega arith)) refl
 
 within_same : (h : Head) → is_within (cap_head h) ≡ is_within h
-within_same h = rw (cap_le h.max 1048576 (omega arith), cap_le h.inputs 1048576 (omega arith), cap_le h.latches 1048576 (omega arith), cap_le h.outs 1048576 (omega arith), cap_le h.gates 1048576 (omega arith), cap_le h.bads 1048576 (omega arith), cap_le h.cons 1048576 (omega arith), cap_le h.justice 1048576 (omega arith), cap_le h.fair 1048576 (omega arith)) refl
+within_same h = rw (cap_le h.max most_items (omega arith), cap_le h.inputs most_items (omega arith), cap_le h.latches most_items (omega arith), cap_le h.outs most_items (omega arith), cap_le h.gates most_items (omega arith), cap_le h.bads most_items (omega arith), cap_le h.cons most_items (omega arith), cap_le h.justice most_items (omega arith), cap_le h.fair most_items (omega arith)) refl
 
 both : (a b : Bool) → (a && b) ≡ true → (a ≡ true) × (b ≡ true)
 both true b h = (refl, h)
@@ -65,24 +66,24 @@ wrong_same h = by_test (is_tried h) refl where
 -- within the limits nothing is capped
 same_head : (h : Head) → is_within h ≡ true → cap_head h ≡ h
 same_head h t =
-    let a = both (nat_le h.max 1048576 && nat_le h.inputs 1048576 && nat_le h.latches 1048576 && nat_le h.outs 1048576 && nat_le h.gates 1048576 && nat_le h.bads 1048576 && nat_le h.cons 1048576 && nat_le h.justice 1048576) (nat_le h.fair 1048576) t in
-    let b = both (nat_le h.max 1048576 && nat_le h.inputs 1048576 && nat_le h.latches 1048576 && nat_le h.outs 1048576 && nat_le h.gates 1048576 && nat_le h.bads 1048576 && nat_le h.cons 1048576) (nat_le h.justice 1048576) a.0 in
-    let c = both (nat_le h.max 1048576 && nat_le h.inputs 1048576 && nat_le h.latches 1048576 && nat_le h.outs 1048576 && nat_le h.gates 1048576 && nat_le h.bads 1048576) (nat_le h.cons 1048576) b.0 in
-    let d = both (nat_le h.max 1048576 && nat_le h.inputs 1048576 && nat_le h.latches 1048576 && nat_le h.outs 1048576 && nat_le h.gates 1048576) (nat_le h.bads 1048576) c.0 in
-    let e = both (nat_le h.max 1048576 && nat_le h.inputs 1048576 && nat_le h.latches 1048576 && nat_le h.outs 1048576) (nat_le h.gates 1048576) d.0 in
-    let f = both (nat_le h.max 1048576 && nat_le h.inputs 1048576 && nat_le h.latches 1048576) (nat_le h.outs 1048576) e.0 in
-    let g = both (nat_le h.max 1048576 && nat_le h.inputs 1048576) (nat_le h.latches 1048576) f.0 in
-    let i = both (nat_le h.max 1048576) (nat_le h.inputs 1048576) g.0 in
+    let a = both (nat_le h.max most_items && nat_le h.inputs most_items && nat_le h.latches most_items && nat_le h.outs most_items && nat_le h.gates most_items && nat_le h.bads most_items && nat_le h.cons most_items && nat_le h.justice most_items) (nat_le h.fair most_items) t in
+    let b = both (nat_le h.max most_items && nat_le h.inputs most_items && nat_le h.latches most_items && nat_le h.outs most_items && nat_le h.gates most_items && nat_le h.bads most_items && nat_le h.cons most_items) (nat_le h.justice most_items) a.0 in
+    let c = both (nat_le h.max most_items && nat_le h.inputs most_items && nat_le h.latches most_items && nat_le h.outs most_items && nat_le h.gates most_items && nat_le h.bads most_items) (nat_le h.cons most_items) b.0 in
+    let d = both (nat_le h.max most_items && nat_le h.inputs most_items && nat_le h.latches most_items && nat_le h.outs most_items && nat_le h.gates most_items) (nat_le h.bads most_items) c.0 in
+    let e = both (nat_le h.max most_items && nat_le h.inputs most_items && nat_le h.latches most_items && nat_le h.outs most_items) (nat_le h.gates most_items) d.0 in
+    let f = both (nat_le h.max most_items && nat_le h.inputs most_items && nat_le h.latches most_items) (nat_le h.outs most_items) e.0 in
+    let g = both (nat_le h.max most_items && nat_le h.inputs most_items) (nat_le h.latches most_items) f.0 in
+    let i = both (nat_le h.max most_items) (nat_le h.inputs most_items) g.0 in
     rw (
-      cap_same h.max 1048576 (omega arith) i.0,
-      cap_same h.inputs 1048576 (omega arith) i.1,
-      cap_same h.latches 1048576 (omega arith) g.1,
-      cap_same h.outs 1048576 (omega arith) f.1,
-      cap_same h.gates 1048576 (omega arith) e.1,
-      cap_same h.bads 1048576 (omega arith) d.1,
-      cap_same h.cons 1048576 (omega arith) c.1,
-      cap_same h.justice 1048576 (omega arith) b.1,
-      cap_same h.fair 1048576 (omega arith) a.1,
+      cap_same h.max most_items (omega arith) i.0,
+      cap_same h.inputs most_items (omega arith) i.1,
+      cap_same h.latches most_items (omega arith) g.1,
+      cap_same h.outs most_items (omega arith) f.1,
+      cap_same h.gates most_items (omega arith) e.1,
+      cap_same h.bads most_items (omega arith) d.1,
+      cap_same h.cons most_items (omega arith) c.1,
+      cap_same h.justice most_items (omega arith) b.1,
+      cap_same h.fair most_items (omega arith) a.1,
     ) refl
 
 abbrev limits : Head → Bool → Result Head AigCode

@@ -5,6 +5,8 @@ pub mod Takes
 pub mod Spacing
 pub mod OneCycle
 pub mod Marking
+pub mod Tabling
+pub mod MarkTables
 pub mod Sectioning
 pub mod Naming
 pub mod Owning

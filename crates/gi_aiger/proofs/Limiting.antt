@@ -5,36 +5,37 @@ use Rattle.std.proofs.lemmas.Bool.Decides.{nat_tests}
 use Rattle.gi_aiger.specs.declared.head.Head.{Head}
 use Rattle.gi_aiger.specs.Header.{is_within}
 use Rattle.gi_aiger.specs.Symbols.{places_of}
+use Rattle.gi_aiger.specs.Limits.{most_items}
 
 -- each number is within the limit
 pub record AreWithin (h : Head) : Type 0 where
-  pub max : h.max ≤ 1048576
-  pub inputs : h.inputs ≤ 1048576
-  pub latches : h.latches ≤ 1048576
-  pub outs : h.outs ≤ 1048576
-  pub gates : h.gates ≤ 1048576
-  pub bads : h.bads ≤ 1048576
-  pub cons : h.cons ≤ 1048576
-  pub justice : h.justice ≤ 1048576
-  pub fair : h.fair ≤ 1048576
+  pub max : h.max ≤ most_items
+  pub inputs : h.inputs ≤ most_items
+  pub latches : h.latches ≤ most_items
+  pub outs : h.outs ≤ most_items
+  pub gates : h.gates ≤ most_items
+  pub bads : h.bads ≤ most_items
+  pub cons : h.cons ≤ most_items
+  pub justice : h.justice ≤ most_items
+  pub fair : h.fair ≤ most_items
 
 both : (a b : Bool) → (a && b) ≡ true → (a ≡ true) × (b ≡ true)
 both true b h = (refl, h)
 both false b h = absurd cc
 
-low : (n : ℕ) → nat_le n 1048576 ≡ true → n ≤ 1048576
+low : (n : ℕ) → nat_le n most_items ≡ true → n ≤ most_items
 low n t = grind (arith, nat_tests, t)
 
 pub are_within : (h : Head) → is_within h ≡ true → AreWithin h
 are_within h t =
-    let a = both (nat_le h.max 1048576 && nat_le h.inputs 1048576 && nat_le h.latches 1048576 && nat_le h.outs 1048576 && nat_le h.gates 1048576 && nat_le h.bads 1048576 && nat_le h.cons 1048576 && nat_le h.justice 1048576) (nat_le h.fair 1048576) t in
-    let b = both (nat_le h.max 1048576 && nat_le h.inputs 1048576 && nat_le h.latches 1048576 && nat_le h.outs 1048576 && nat_le h.gates 1048576 && nat_le h.bads 1048576 && nat_le h.cons 1048576) (nat_le h.justice 1048576) a.0 in
-    let c = both (nat_le h.max 1048576 && nat_le h.inputs 1048576 && nat_le h.latches 1048576 && nat_le h.outs 1048576 && nat_le h.gates 1048576 && nat_le h.bads 1048576) (nat_le h.cons 1048576) b.0 in
-    let d = both (nat_le h.max 1048576 && nat_le h.inputs 1048576 && nat_le h.latches 1048576 && nat_le h.outs 1048576 && nat_le h.gates 1048576) (nat_le h.bads 1048576) c.0 in
-    let e = both (nat_le h.max 1048576 && nat_le h.inputs 1048576 && nat_le h.latches 1048576 && nat_le h.outs 1048576) (nat_le h.gates 1048576) d.0 in
-    let f = both (nat_le h.max 1048576 && nat_le h.inputs 1048576 && nat_le h.latches 1048576) (nat_le h.outs 1048576) e.0 in
-    let g = both (nat_le h.max 1048576 && nat_le h.inputs 1048576) (nat_le h.latches 1048576) f.0 in
-    let i = both (nat_le h.max 1048576) (nat_le h.inputs 1048576) g.0 in
+    let a = both (nat_le h.max most_items && nat_le h.inputs most_items && nat_le h.latches most_items && nat_le h.outs most_items && nat_le h.gates most_items && nat_le h.bads most_items && nat_le h.cons most_items && nat_le h.justice most_items) (nat_le h.fair most_items) t in
+    let b = both (nat_le h.max most_items && nat_le h.inputs most_items && nat_le h.latches most_items && nat_le h.outs most_items && nat_le h.gates most_items && nat_le h.bads most_items && nat_le h.cons most_items) (nat_le h.justice most_items) a.0 in
+    let c = both (nat_le h.max most_items && nat_le h.inputs most_items && nat_le h.latches most_items && nat_le h.outs most_items && nat_le h.gates most_items && nat_le h.bads most_items) (nat_le h.cons most_items) b.0 in
+    let d = both (nat_le h.max most_items && nat_le h.inputs most_items && nat_le h.latches most_items && nat_le h.outs most_items && nat_le h.gates most_items) (nat_le h.bads most_items) c.0 in
+    let e = both (nat_le h.max most_items && nat_le h.inputs most_items && nat_le h.latches most_items && nat_le h.outs most_items) (nat_le h.gates most_items) d.0 in
+    let f = both (nat_le h.max most_items && nat_le h.inputs most_items && nat_le h.latches most_items) (nat_le h.outs most_items) e.0 in
+    let g = both (nat_le h.max most_items && nat_le h.inputs most_items) (nat_le h.latches most_items) f.0 in
+    let i = both (nat_le h.max most_items) (nat_le h.inputs most_items) g.0 in
     record {
       max = low h.max i.0;
       inputs = low h.inputs i.1;
@@ -48,14 +49,14 @@ are_within h t =
     }
 
 -- so are the places of symbols
-cond_low : (b : Bool) (x y : ℕ) → x ≤ 1048576 → y ≤ 1048576 → cond b x y ≤ 1048576
+cond_low : (b : Bool) (x y : ℕ) → x ≤ most_items → y ≤ most_items → cond b x y ≤ most_items
 cond_low true x y p q = p
 cond_low false x y p q = q
 
 abbrev choose : Bool → ℕ → ℕ → ℕ
 choose b x y = cond b x y
 
-pub places_low : (h : Head) (kind : ℕ) → AreWithin h → places_of h kind ≤ 1048576
+pub places_low : (h : Head) (kind : ℕ) → AreWithin h → places_of h kind ≤ most_items
 places_low h kind w =
     let f = cond_low (kind == 102) h.fair 0 w.fair (omega arith) in
     let j = cond_low (kind == 106) h.justice (choose (kind == 102) h.fair 0) w.justice f in

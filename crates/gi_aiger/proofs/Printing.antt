@@ -35,6 +35,7 @@ use Rattle.gi_aiger.proofs.Spelling.{InRange}
 use Rattle.gi_aiger.proofs.Sounding.{flat_flat, flat_same, size_in, each_join}
 use Rattle.gi_aiger.proofs.Accepting.{sound_range}
 use Rattle.gi_aiger.proofs.Wording.{AreShort, spaced, fields_spaced, numbers_spaced, spaced_plain, row_line, IsShortRow, rows_say, EndsLine, row_ends, lines_joined, comment_rest, title_ends, titles_say}
+use Rattle.gi_aiger.specs.Limits.{most_items}
 
 -- the sections of lines
 abbrev text_at : Aig → Section → List ℕ
@@ -109,7 +110,7 @@ further_spaced true true false b nb nc nj nf = two_parts (count_text nb) (count_
 further_spaced true true true false nb nc nj nf = sym (append-nil (count_text nb))
 further_spaced true true true true nb nc nj nf = refl
 
-further_short : (f j c b : Bool) (nb nc nj nf : ℕ) → nb ≤ 1048576 → nc ≤ 1048576 → nj ≤ 1048576 → nf ≤ 1048576 → AreShort (further_by f j c b nb nc nj nf)
+further_short : (f j c b : Bool) (nb nc nj nf : ℕ) → nb ≤ most_items → nc ≤ most_items → nj ≤ most_items → nf ≤ most_items → AreShort (further_by f j c b nb nc nj nf)
 further_short false j c b nb nc nj nf p q r s = (omega (arith, p), (omega (arith, q), (omega (arith, r), (omega (arith, s), tt))))
 further_short true false c b nb nc nj nf p q r s = (omega (arith, p), (omega (arith, q), (omega (arith, r), tt)))
 further_short true true false b nb nc nj nf p q r s = (omega (arith, p), (omega (arith, q), tt))
@@ -190,7 +191,7 @@ latch_short l Zero a b = (a, (b, tt))
 latch_short l One a b = (a, (b, (omega arith, tt)))
 latch_short l Free a b = (a, (b, (a, tt)))
 
-range_short : (max room : ℕ) (r : Row) → max ≤ 1048576 → room ≤ 1048576 → InRange max room r → IsShortRow r
+range_short : (max room : ℕ) (r : Row) → max ≤ most_items → room ≤ most_items → InRange max room r → IsShortRow r
 range_short max room (rows.Input l) p q is = (omega (arith, p, is.2), tt)
 range_short max room (rows.Latch l) p q is = latch_short l l.reset (omega (arith, p, is.0.2)) (omega (arith, p, is.1))
 range_short max room (rows.Out l) p q is = (omega (arith, p, is), tt)
@@ -201,7 +202,7 @@ range_short max room (rows.Justice l) p q is = (omega (arith, p, is), tt)
 range_short max room (rows.Fair l) p q is = (omega (arith, p, is), tt)
 range_short max room (rows.Gate g) p q is = (omega (arith, p, is.0.2), (omega (arith, p, is.1), (omega (arith, p, is.2), tt)))
 
-rows_short : (v : Aig) → IsSound v → v.max ≤ 1048576 → (before rs : List Row) → rows_of v ≡ before ++ rs → AllByRecursion IsShortRow rs
+rows_short : (v : Aig) → IsSound v → v.max ≤ most_items → (before rs : List Row) → rows_of v ≡ before ++ rs → AllByRecursion IsShortRow rs
 rows_short v s small before [] e = tt
 rows_short v s small before (r ∷ rs) e =
     let t : Taken = record nothing { total = 0 + sum_by size_in before } in

@@ -41,6 +41,7 @@ use Rattle.gi_aiger.proofs.Knowing.{gate_in, input_in}
 use Rattle.gi_aiger.proofs.Sounding.{defining_in, defining_all, defining_at, defining_section, variables_are, flat_flat, flat_same, flat_none, Low, each_left, each_right, each_join}
 use Rattle.gi_aiger.proofs.Accepting.{mids, mid_of, mid_news, mid_inputs, mid_gates, rows_around, skip_inputs, size_map}
 use Rattle.gi_aiger.proofs.Retelling.{rows_said, ranges, totals, shares_count, shares_lengths, shares_flat, counted, same_head}
+use Rattle.gi_aiger.specs.Limits.{most_items}
 
 abbrev bin : Head → Head
 bin h = record h { form = Binary }
@@ -80,7 +81,7 @@ header_fits line h e =
     let f : Fit (Ok h) = subst Fit e (header_fit line) in
     let w = are_within h f.0 in
     (w, fitting (is_fitting h.form h.max (h.inputs + h.latches + h.gates)) (is_tried h) (tried h w) f.1) where
-      small : (n : ℕ) → n ≤ 1048576 → nat_le n 4294967295 ≡ true
+      small : (n : ℕ) → n ≤ most_items → nat_le n 4294967295 ≡ true
       small n le = grind (arith, nat_tests)
 
       tried : (h : Head) → AreWithin h → is_tried h ≡ true
@@ -180,7 +181,7 @@ inputs_low : (max : ℕ) (ins : List ℕ) → AllByRecursion (Low max) (flat_map
 inputs_low max ins = subst (AllByRecursion (Low max)) (sym (flat_none literals_in rows.Input (λ l. refl) ins)) tt
 
 -- a value whose literals are numbered is sound where its other literals are low
-numbered_sound : (v : Aig) → AreFrom 0 (defining_literals v) → length (defining_literals v) ≡ v.max → AllByRecursion (Low v.max) (flat_map literals_in (rows_of v)) → HasLevels v.gates → length (flat_map (λ p. p) v.justice) ≤ 1048576 → IsSound v
+numbered_sound : (v : Aig) → AreFrom 0 (defining_literals v) → length (defining_literals v) ≡ v.max → AllByRecursion (Low v.max) (flat_map literals_in (rows_of v)) → HasLevels v.gates → length (flat_map (λ p. p) v.justice) ≤ most_items → IsSound v
 numbered_sound v from count low levels sizes =
     let variables : defined_variables (rows_of v) ≡ halves (defining_literals v) = variables_are (rows_of v) ∙ ap halves (defining_all v) in
     record {
@@ -214,7 +215,7 @@ build h (l, (o, (b, (c, (n, (j, (f, u))))))) (kl, (ko, (kb, (kc, (kn, (kj, (kf, 
     inputs (counted (length l) h.latches kl) (counted (length o) h.outs ko) (counted (length gs) h.gates kg) (counted (length b) h.bads kb) (counted (length c) h.cons kc) (shares_count n j ∙ counted (length n) h.justice kn) (counted (length f) h.fair kf) in
     let all = ranges (bin h) (begin (bin h)) body R right in
     let taken : takes Binary (begin (bin h)) R ≡ stands = state_takes Binary mids (begin (bin h)) L (mid_news h) in
-    let total : stands.total ≤ 1048576 = subst (λ (u : Taken). u.total ≤ 1048576) taken (totals (bin h) (begin (bin h)) body R right (omega arith)) in
+    let total : stands.total ≤ most_items = subst (λ (u : Taken). u.total ≤ most_items) taken (totals (bin h) (begin (bin h)) body R right (omega arith)) in
     let literals : length (flat_map (λ p. p) (shares n j)) ≡ length j = ap length (shares_flat n j sizes) in
     let latches : AreFrom (h.inputs + 0) lits = subst (AreFrom (h.inputs + 0)) (ap (flat_map defining_in) (sym mid_is) ∙ mid_defining v) (mids_from h (begin (bin h)) body R right (ap (sum_by input_in) (sym mid_is) ∙ mid_inputs v) (ap (sum_by gate_in) (sym mid_is) ∙ mid_gates v)) in
     let place1 : h.inputs + 0 ≡ 0 + length (evens h.inputs) = omega (arith, inputs) in

@@ -1,6 +1,6 @@
 -- Levels of gates and levels of their nodes.
 use Rattle.std.proofs.Common.{◌≡◌, ◌≢◌, ℕ, zero, suc, ◌+◌, ◌/◌, ◌<◌, ◌≤◌, nat_lt, max, get_or, Bool, List, [], ◌∷◌, ◌++◌, length, take, map, cond, ◌⊎◌, inl, inr, Option, Some, None, Result, Ok, Err, Vec, Global, refl, ap, sym, ◌∙◌, subst, arith}
-use Rattle.std.specs.Prelude.{IfOk, MatchOption}
+use Rattle.std.specs.Prelude.{IfOk, IfSome, MatchOption}
 use Rattle.std.specs.List.{All, range_with_len}
 use Rattle.std.specs.List.Sorted.{IsPermutation}
 use Rattle.std.proofs.lemmas.List.{get_or-map, get_or-take, length-take}
@@ -15,7 +15,7 @@ use Rattle.gi_levels.proofs.Gathered.{order_is_whole as order_whole, order_rises
 use Rattle.gi_levels.proofs.Sorting.{all_below}
 use Rattle.gi_aiger.specs.declared.aig.AndGate.{AndGate}
 use Rattle.gi_aiger.specs.Levels.{gate_at, HasLevels, ClosesCycle, IsDistinct}
-use Rattle.gi_aiger.specs.Places.{place_at, IsPlace, ArePlaces, node_by, node_of, Resolves, place_of, nodes_of, places_by_level, variable_level, AreLevels, AreByLevel, GatesHaveLevels}
+use Rattle.gi_aiger.specs.Places.{IsPlace, ArePlaces, node_by, Resolves, place_of, nodes_of, places_by_level, variable_level, AreLevels, AreByLevel, GatesHaveLevels}
 
 pub place_or : (k n : ℕ) → (k < n) ⊎ (n ≤ k)
 place_or k n = elim (leb_tells n k) [ inl t ↦ inr t.1 | inr f ↦ inl (omega (arith, f.1)) ]
@@ -23,11 +23,11 @@ place_or k n = elim (leb_tells n k) [ inl t ↦ inr t.1 | inr f ↦ inl (omega (
 same_or : (a b : ℕ) → (a ≡ b) ⊎ (a ≢ b)
 same_or a b = elim (eqb_tells a b) [ inl t ↦ inl t.1 | inr f ↦ inr f.1 ]
 
--- the table of no gates, and of one more
-pub no_places : (gates : List AndGate) → ArePlaces gates [] 0
-no_places gates = record { each = λ v. inl (refl, λ o lt. absurd (omega arith)) }
+-- the places of no gates, and of one more
+pub no_places : (gates : List AndGate) (place : ℕ → ℕ) → ((v : ℕ) → place v ≡ length gates) → ArePlaces gates 0 place
+no_places gates place same = record { each = λ v. inl (same v, λ o lt. absurd (omega arith)) }
 
-pub more_places : (gates : List AndGate) (old new : List ℕ) (k v : ℕ) → ArePlaces gates old k → v ≡ (gate_at gates k).lhs / 2 → place_at new v (length gates) ≡ k → ((w : ℕ) → w ≢ v → place_at new w (length gates) ≡ place_at old w (length gates)) → ArePlaces gates new (k + 1)
+pub more_places : (gates : List AndGate) (old new : ℕ → ℕ) (k v : ℕ) → ArePlaces gates k old → v ≡ (gate_at gates k).lhs / 2 → new v ≡ k → ((w : ℕ) → w ≢ v → new w ≡ old w) → ArePlaces gates (k + 1) new
 more_places gates old new k v a is same other = record { each = λ w. by_test w (same_or w v) } where
   later : (w p : ℕ) → w ≢ v → IsPlace gates k w p → IsPlace gates (k + 1) w p
   later w p ne (inl h) = inl (h.0, λ o lt. by_last o (same_or o k) lt) where
@@ -36,22 +36,22 @@ more_places gates old new k v a is same other = record { each = λ w. by_test w 
     by_last o (inr f) lt = h.1 o (omega (arith, lt, f))
   later w p ne (inr h) = inr (omega (arith, h.0), h.1)
 
-  by_test : (w : ℕ) → (w ≡ v) ⊎ (w ≢ v) → IsPlace gates (k + 1) w (place_at new w (length gates))
-  by_test w (inl t) = subst (λ (i : ℕ). IsPlace gates (k + 1) i (place_at new i (length gates))) (sym t) (subst (λ (p : ℕ). IsPlace gates (k + 1) v p) (sym same) (inr (omega arith, sym is)))
-  by_test w (inr f) = subst (λ (p : ℕ). IsPlace gates (k + 1) w p) (sym (other w f)) (later w (place_at old w (length gates)) f (a.each w))
+  by_test : (w : ℕ) → (w ≡ v) ⊎ (w ≢ v) → IsPlace gates (k + 1) w (new w)
+  by_test w (inl t) = subst (λ (i : ℕ). IsPlace gates (k + 1) i (new i)) (sym t) (subst (λ (p : ℕ). IsPlace gates (k + 1) v p) (sym same) (inr (omega arith, sym is)))
+  by_test w (inr f) = subst (λ (p : ℕ). IsPlace gates (k + 1) w p) (sym (other w f)) (later w (old w) f (a.each w))
 
 shift : (k : ℕ) → suc (k + 1) ≡ suc k + 1
 shift k = omega arith
 
 -- one node more
-pub one_node : (places : List ℕ) (none : ℕ) (gates : List AndGate) (k : ℕ) → k < length gates → map (node_of places none) (take k gates) ++ node_of places none (gate_at gates k) ∷ [] ≡ map (node_of places none) (take (k + 1) gates)
-one_node places none [] k lt = absurd (omega arith)
-one_node places none (g ∷ gs) zero lt = refl
-one_node places none (g ∷ gs) (suc k) lt = ap (λ xs. node_of places none g ∷ xs) (one_node places none gs k (omega arith)) ∙ ap (λ (m : ℕ). map (node_of places none) (take m (g ∷ gs))) (shift k)
+pub one_node : (place : ℕ → ℕ) (gates : List AndGate) (k : ℕ) → k < length gates → map (node_by place) (take k gates) ++ node_by place (gate_at gates k) ∷ [] ≡ map (node_by place) (take (k + 1) gates)
+one_node place [] k lt = absurd (omega arith)
+one_node place (g ∷ gs) zero lt = refl
+one_node place (g ∷ gs) (suc k) lt = ap (λ xs. node_by place g ∷ xs) (one_node place gs k (omega arith)) ∙ ap (λ (m : ℕ). map (node_by place) (take m (g ∷ gs))) (shift k)
 
--- a whole table resolves all gates
-pub resolved : (gates : List AndGate) (places : List ℕ) (ns : List Node) → ArePlaces gates places (length gates) → ns ≡ map (node_of places (length gates)) gates → Resolves gates ns
-resolved gates places ns a e = record { place = λ v. place_at places v (length gates); are = a.each; nodes_are = e }
+-- the places of all gates resolve all
+pub resolved : (gates : List AndGate) (place : ℕ → ℕ) (ns : List Node) → ArePlaces gates (length gates) place → ns ≡ map (node_by place) gates → Resolves gates ns
+resolved gates place ns a e = record { place = place; are = a.each; nodes_are = e }
 
 -- among the first gates
 node_in : (gates : List AndGate) (ns : List Node) (r : Resolves gates ns) (c k : ℕ) → k < c → k < length gates → nodes.node_at (take c ns) k ≡ node_by r.place (gate_at gates k)
@@ -230,7 +230,7 @@ cyclic_nodes gates ns r none h =
     (to_nodes gates ns (length gates) r (omega arith) (subst HasLevels (sym (take_whole gates (length gates) refl)) h)))
 
 -- levels of variables
-own_place : (gates : List AndGate) → IsDistinct gates → (k : ℕ) → k < length gates → place_of gates ((gate_at gates k).lhs / 2) ≡ k
+pub own_place : (gates : List AndGate) → IsDistinct gates → (k : ℕ) → k < length gates → place_of gates ((gate_at gates k).lhs / 2) ≡ k
 own_place gates d k lt = one_place gates ((gate_at gates k).lhs / 2) (place_of gates ((gate_at gates k).lhs / 2)) k d (own_are gates ((gate_at gates k).lhs / 2)) (inr (lt, refl))
 
 own_node : (gates : List AndGate) (k : ℕ) → k < length gates → nodes.node_at (nodes_of gates) k ≡ node_by (place_of gates) (gate_at gates k)
@@ -261,15 +261,19 @@ module _ (gates : List AndGate) (d : IsDistinct gates) (h : HasLevels gates) whe
     other = no_level;
   }
 
+  own_all : IsPermutation (range_with_len 0 (length gates)) (places_by_level gates)
+  own_all = subst (λ (n : ℕ). IsPermutation (range_with_len 0 n) (places_by_level gates)) own_len (order_whole (nodes_of gates) (whole_to_nodes gates h))
+
+  pub own_inside : All (λ k. k < length gates) (places_by_level gates)
+  own_inside = All-permutation (λ k. k < length gates) (range_with_len 0 (length gates)) (places_by_level gates) own_all (all_below 0 (length gates) (length gates) (omega arith))
+
   own_order : AreByLevel gates (variable_level gates) (places_by_level gates)
   own_order =
-      let whole : IsPermutation (range_with_len 0 (length gates)) (places_by_level gates) = subst (λ (n : ℕ). IsPermutation (range_with_len 0 n) (places_by_level gates)) own_len (order_whole (nodes_of gates) (whole_to_nodes gates h)) in
-      let inside : All (λ k. k < length gates) (places_by_level gates) = All-permutation (λ k. k < length gates) (range_with_len 0 (length gates)) (places_by_level gates) whole (all_below 0 (length gates) (length gates) (omega arith)) in
       record {
-        all = whole;
+        all = own_all;
         rises = λ i j e le lt.
-            let p = ap (orders.level_of (nodes_of gates)) (own_place gates d (get_or (places_by_level gates) i e) (inside i e (omega (arith, le, lt)))) in
-            let q = ap (orders.level_of (nodes_of gates)) (own_place gates d (get_or (places_by_level gates) j e) (inside j e lt)) in
+            let p = ap (orders.level_of (nodes_of gates)) (own_place gates d (get_or (places_by_level gates) i e) (own_inside i e (omega (arith, le, lt)))) in
+            let q = ap (orders.level_of (nodes_of gates)) (own_place gates d (get_or (places_by_level gates) j e) (own_inside j e lt)) in
             let r = order_rises (nodes_of gates) i j e le lt in
             omega (arith, p, q, r);
       }
@@ -282,3 +286,8 @@ pub ok_order : {E : Type 0} (gates : List AndGate) (ns : List Node) (r : Result 
 ok_order gates ns (Ok None) d r h = cyclic_nodes gates ns r h
 ok_order gates ns (Ok (Some places)) d r h = h ∙ ap orders.by_level (nodes_are_own gates ns d r)
 ok_order gates ns (Err e) d r h = h
+
+pub ok_within : {E : Type 0} (gates : List AndGate) (ns : List Node) (r : Result (Option ℕ) E) → Resolves gates ns → IfOk r (λ found. MatchOption found (nodes.HasLevels ns) (nodes.ClosesCycle ns)) → IfOk r (λ found. IfSome found (λ k. k < length gates))
+ok_within gates ns (Ok None) r h = tt
+ok_within gates ns (Ok (Some k)) r h = let lt = h.within in omega (arith, lt, nodes_len gates ns r)
+ok_within gates ns (Err e) r h = tt

@@ -34,6 +34,7 @@ use Rattle.gi_aiger.proofs.Titling.{symbols_back}
 use Rattle.gi_aiger.proofs.Knowing.{NoneKnown, once_from, all_closed}
 use Rattle.gi_aiger.proofs.Sounding.{defining_in, defining_all, Low, defines_well, uses_well, each_join, marks_takes}
 use Rattle.gi_aiger.proofs.Accepting.{ascii_news, size_map}
+use Rattle.gi_aiger.specs.Limits.{most_items}
 
 -- what right lines say
 pub rows_said : (h : Head) (t : Taken) (ls : List (List ℕ)) (rs : List Row) → AllRight h t ls rs → AllSay h.form ls rs
@@ -50,7 +51,7 @@ ranges h t (l ∷ ls) (r ∷ rs) right =
     let more = ranges h (step h.form t r) ls rs right.1 in
     (each_join (IsDefining h.max) (defining_in r) (flat_map defining_in rs) (defines_well h.max (room t) r right.0.range) more.0, each_join (Low h.max) (literals_in r) (flat_map literals_in rs) (uses_well h.max (room t) r right.0.range) more.1)
 
-pub totals : (h : Head) (t : Taken) (ls : List (List ℕ)) (rs : List Row) → AllRight h t ls rs → t.total ≤ 1048576 → (takes h.form t rs).total ≤ 1048576
+pub totals : (h : Head) (t : Taken) (ls : List (List ℕ)) (rs : List Row) → AllRight h t ls rs → t.total ≤ most_items → (takes h.form t rs).total ≤ most_items
 totals h t [] [] right le = le
 totals h t [] (r ∷ rs) right le = absurd right
 totals h t (l ∷ ls) [] right le = absurd right
@@ -151,7 +152,7 @@ build h (i, (l, (o, (b, (c, (n, (j, (f, (g, u))))))))) (ki, (kl, (ko, (kb, (kc, 
     let come : to_come (asc h) stands ≡ 0 = omega (arith, kl, kg) in
     let none : missing (marks_of R []) ≡ 0 =
     omega (arith, subst (λ (u : Taken). missing (takes Ascii (begin (asc h)) R).marks ≤ to_come (asc h) u) taken few, come, ap missing (marks_takes (begin (asc h)) R)) in
-    let total : stands.total ≤ 1048576 = subst (λ (u : Taken). u.total ≤ 1048576) taken (totals (asc h) (begin (asc h)) body R right (omega arith)) in
+    let total : stands.total ≤ most_items = subst (λ (u : Taken). u.total ≤ most_items) taken (totals (asc h) (begin (asc h)) body R right (omega arith)) in
     let literals : length (flat_map (λ p. p) (shares n j)) ≡ length j = ap length (shares_flat n j sizes) in
     record {
       head = head;

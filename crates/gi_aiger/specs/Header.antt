@@ -7,6 +7,7 @@ use Rattle.gi_aiger.specs.declared.head.Form.{Form}
 use Rattle.gi_aiger.specs.declared.head.Form.TheVariants.{Ascii, Binary}
 use Rattle.gi_aiger.specs.declared.head.Head.{Head}
 use Rattle.gi_aiger.specs.Fields.{fields_of, numbers_at}
+use Rattle.gi_aiger.specs.Limits.{most_items}
 
 -- the form that the header's word names: `aag` or `aig`
 abbrev pub form_of : List ℕ → Option Form
@@ -41,7 +42,7 @@ is_wrong h = is_tried h && not (is_fitting h.form h.max (h.inputs + h.latches + 
 
 -- each number is within the limit
 abbrev pub is_within : Head → Bool
-is_within h = nat_le h.max 1048576 && nat_le h.inputs 1048576 && nat_le h.latches 1048576 && nat_le h.outs 1048576 && nat_le h.gates 1048576 && nat_le h.bads 1048576 && nat_le h.cons 1048576 && nat_le h.justice 1048576 && nat_le h.fair 1048576
+is_within h = nat_le h.max most_items && nat_le h.inputs most_items && nat_le h.latches most_items && nat_le h.outs most_items && nat_le h.gates most_items && nat_le h.bads most_items && nat_le h.cons most_items && nat_le h.justice most_items && nat_le h.fair most_items
 
 -- the header is tried before its limits
 abbrev pub judge_head : Head → Result Head AigCode

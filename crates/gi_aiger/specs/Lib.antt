@@ -1,3 +1,5 @@
+pub mod Limits
+pub mod Tables
 pub mod Fields
 pub mod Lines
 pub mod Header

@@ -1,5 +1,5 @@
 -- The machine over bytes that the code is. What files say is in `Files` and `Relation`, and the reader's contract says that this machine reads it.
-use Rattle.std.specs.Prelude.{◌≡◌, ℕ, ◌+◌, ◌≤◌, nat_lt, Bool, true, ◌==◌, ◌&&◌, not, List, [], ◌∷◌, ◌++◌, length, Option, Some, None, Result, Ok, Err, if◌then◌else◌}
+use Rattle.std.specs.Prelude.{◌≡◌, ℕ, ◌+◌, ◌<◌, ◌≤◌, nat_lt, Bool, true, ◌==◌, ◌&&◌, not, List, [], ◌∷◌, ◌++◌, length, Option, Some, None, Result, Ok, Err, if◌then◌else◌}
 use Rattle.std.specs.Str.{bytes_eq}
 use Rattle.std.specs.Char.{is_ascii_digit}
 use Rattle.std.specs.List.{fold}
@@ -16,11 +16,12 @@ use Rattle.gi_aiger.specs.declared.phase.Phase.{Phase}
 use Rattle.gi_aiger.specs.declared.phase.Phase.TheVariants.{Heading, Rows, Gates, Naming, Comment, Failed}
 use Rattle.gi_aiger.specs.declared.machine.Machine.{Machine}
 use Rattle.gi_aiger.specs.Header.{header_of, is_within}
-use Rattle.gi_aiger.specs.Taking.{nothing, add_line}
-use Rattle.gi_aiger.specs.Sections.{first_left, behind, sections_of}
+use Rattle.gi_aiger.specs.Taking.{IsBounded, nothing, add_line}
+use Rattle.gi_aiger.specs.Sections.{first_left, left_in, behind, sections_of}
 use Rattle.gi_aiger.specs.Groups.{difference_of, greater_at, lesser_at}
 use Rattle.gi_aiger.specs.Named.{add_symbol}
 use Rattle.gi_aiger.specs.Files.{Told, stopped, gate_stopped, whole, own_gate, with_gate, begin}
+use Rattle.gi_aiger.specs.Limits.{most_items}
 
 -- a header of nothing
 abbrev pub no_head : Head
@@ -29,9 +30,21 @@ no_head = record { form = Ascii; max = 0; inputs = 0; latches = 0; outs = 0; gat
 abbrev pub start : Global → Machine
 start alloc = record { alloc = alloc; line = 1; phase = Heading; head = no_head; word = []; taken = nothing; symbols = []; comment = [] }
 
--- the header's numbers and the sum of the justice sizes are within their limits
-abbrev pub IsFit : Machine → Type 0
-IsFit s = (is_within s.head ≡ true) × (s.taken.total ≤ 1048576)
+-- where lines of a section or binary gates are read, one at least is to come
+abbrev pub InPhase : Phase → Head → Taken → Type 0
+InPhase Heading h t = Unit {0}
+InPhase (Rows section) h t = 0 < left_in h t section
+InPhase (Gates greater) h t = length t.gates < h.gates
+InPhase Naming h t = Unit {0}
+InPhase Comment h t = Unit {0}
+InPhase (Failed gate c) h t = Unit {0}
+
+-- the header's numbers, the sum of the justice sizes and the lists are within their limits
+pub record IsFit (s : Machine) : Type 0 where
+  pub head : is_within s.head ≡ true
+  pub total : s.taken.total ≤ most_items
+  pub lists : IsBounded s.taken
+  pub phase : InPhase s.phase s.head s.taken
 
 abbrev pub failed : Machine → ℕ → AigCode → Machine
 failed s gate code = record s { phase = Failed gate code; word = [] }

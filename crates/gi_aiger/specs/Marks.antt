@@ -1,5 +1,6 @@
 -- Which variables are used and which are defined, line by line.
-use Rattle.std.specs.Prelude.{ℕ, ◌+◌, ◌-◌, ◌/◌, ◌==◌, Bool, true, false, List, [], ◌∷◌, ◌++◌, length, replicate, count_by, slice_index_or, slice_set, Option, Some, None, if◌then◌else◌}
+use Rattle.std.specs.Prelude.{◌≡◌, ℕ, ◌+◌, ◌-◌, ◌/◌, ◌^◌, ◌≤◌, ◌==◌, map, Bool, true, false, List, [], ◌∷◌, ◌++◌, length, replicate, count_by, slice_index_or, slice_set, Option, Some, None, if◌then◌else◌}
+use Rattle.std.specs.List.{range_with_len}
 use Rattle.gi_aiger.specs.declared.mark.Mark.{Mark}
 use Rattle.gi_aiger.specs.declared.mark.Mark.TheVariants.{Fresh, Used, Defined}
 use Rattle.gi_aiger.specs.declared.row.Row.{Row}
@@ -22,6 +23,12 @@ mark_at marks v = slice_index_or marks v Fresh
 -- how many variables are used and not defined
 abbrev pub missing : List Mark → ℕ
 missing marks = count_by is_used marks
+
+-- the marks of the first variables by a table, where all others are fresh, with how many are used and not defined
+pub record AreMarked (mark : ℕ → Mark) (len count : ℕ) : Type 0 where
+  pub past : (v : ℕ) → len ≤ v → mark v ≡ Fresh
+  pub counted : count ≡ missing (map mark (range_with_len 0 len))
+  pub small : len ≤ 2 ^ 32
 
 -- the same marks, in a list that has one for the variable
 abbrev pub reaches : ℕ → List Mark → List Mark

@@ -1,5 +1,5 @@
 -- Gates as nodes, by the places of their operands.
-use Rattle.std.specs.Prelude.{◌≡◌, ◌≢◌, ℕ, suc, ◌/◌, ◌<◌, ◌==◌, ◌⊎◌, if◌then◌else◌, max, List, [], ◌∷◌, length, map, slice_index_or}
+use Rattle.std.specs.Prelude.{◌≡◌, ◌≢◌, ℕ, suc, ◌/◌, ◌<◌, ◌==◌, ◌⊎◌, if◌then◌else◌, max, List, [], ◌∷◌, length, map}
 use Rattle.std.specs.List.{range_with_len}
 use Rattle.std.specs.List.Sorted.{IsPermutation, IsNonDecreasingBy}
 use Rattle.gi_levels.specs.declared.levels.Node.{Node}
@@ -7,24 +7,17 @@ use Rattle.gi_levels.specs.Order.{by_level, level_of}
 use Rattle.gi_aiger.specs.declared.aig.AndGate.{AndGate}
 use Rattle.gi_aiger.specs.Levels.{gate_at, HasLevels, IsDistinct}
 
--- the place that a table tells for a variable
-abbrev pub place_at : List ℕ → ℕ → ℕ → ℕ
-place_at places v none = slice_index_or places v none
-
 -- of the first gates none defines the variable, or that at the place does
 abbrev pub IsPlace : List AndGate → ℕ → ℕ → ℕ → Type 0
 IsPlace gates count v p = ((p ≡ length gates) × ((o : ℕ) → o < count → (gate_at gates o).lhs / 2 ≢ v)) ⊎ ((p < count) × ((gate_at gates p).lhs / 2 ≡ v))
 
--- a table of the first gates
-pub record ArePlaces (gates : List AndGate) (places : List ℕ) (count : ℕ) : Type 0 where
-  pub each : (v : ℕ) → IsPlace gates count v (place_at places v (length gates))
+-- the places of the first gates, by the variables that they define
+pub record ArePlaces (gates : List AndGate) (count : ℕ) (place : ℕ → ℕ) : Type 0 where
+  pub each : (v : ℕ) → IsPlace gates count v (place v)
 
 -- a gate as a node, by the places of its operands
 abbrev pub node_by : (ℕ → ℕ) → AndGate → Node
 node_by place gate = record { left = place (gate.rhs0 / 2); right = place (gate.rhs1 / 2) }
-
-abbrev pub node_of : List ℕ → ℕ → AndGate → Node
-node_of places none gate = node_by (λ v. place_at places v none) gate
 
 -- the gates as nodes
 pub record Resolves (gates : List AndGate) (nodes : List Node) : Type 0 where

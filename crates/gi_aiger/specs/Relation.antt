@@ -23,6 +23,7 @@ use Rattle.gi_aiger.specs.Named.{is_named}
 use Rattle.gi_aiger.specs.Files.{begins_comment, comment_of, evens}
 use Rattle.gi_aiger.specs.Levels.{HasLevels}
 use Rattle.gi_aiger.specs.Deltas.{AreGates}
+use Rattle.gi_aiger.specs.Limits.{most_items}
 
 -- the header of a value
 abbrev pub head_of_aig : Form → Aig → Head
@@ -112,7 +113,7 @@ pub record IsSound (v : Aig) : Type 0 where
   pub once : AreOnce (defined_variables (rows_of v))
   pub closed : IsClosed (rows_of v)
   pub levels : HasLevels v.gates
-  pub sizes : length (flat_map (λ p. p) v.justice) ≤ 1048576
+  pub sizes : length (flat_map (λ p. p) v.justice) ≤ most_items
 
 -- the ASCII form
 pub record IsAscii (v : Aig) (bytes : List ℕ) : Type 0 where

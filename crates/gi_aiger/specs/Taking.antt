@@ -15,6 +15,7 @@ use Rattle.gi_aiger.specs.declared.taken.Taken.{Taken}
 use Rattle.gi_aiger.specs.Fields.{numbers_of, with_own}
 use Rattle.gi_aiger.specs.Rows.{defined_by, row_read}
 use Rattle.gi_aiger.specs.Marks.{mark_at, marked, missing}
+use Rattle.gi_aiger.specs.Limits.{most_items}
 
 abbrev pub nothing : Taken
 nothing = record { inputs = []; latches = []; outs = []; bads = []; cons = []; sizes = []; total = 0; justice = []; fair = []; gates = []; marks = [] }
@@ -47,7 +48,7 @@ is_known (Some v) ms = is_defined (mark_at ms v)
 
 -- how many more justice literals there may be
 abbrev pub room : Taken → ℕ
-room t = 1048576 - t.total
+room t = most_items - t.total
 
 -- a line, with the marks of its variables
 abbrev pub with_line : Taken → Row → Taken
@@ -110,3 +111,15 @@ Fits room (rows.Size n) = n ≤ room
 Fits room (rows.Justice l) = Unit {0}
 Fits room (rows.Fair l) = Unit {0}
 Fits room (rows.Gate g) = Unit {0}
+
+-- no list is longer than its limit
+pub record IsBounded (t : Taken) : Type 0 where
+  pub inputs : length t.inputs ≤ most_items
+  pub latches : length t.latches ≤ most_items
+  pub outs : length t.outs ≤ most_items
+  pub bads : length t.bads ≤ most_items
+  pub cons : length t.cons ≤ most_items
+  pub sizes : length t.sizes ≤ most_items
+  pub justice : length t.justice ≤ most_items
+  pub fair : length t.fair ≤ most_items
+  pub gates : length t.gates ≤ most_items

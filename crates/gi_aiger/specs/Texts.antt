@@ -21,9 +21,13 @@ further_text b c j f = if f == 0 then (if j == 0 then (if c == 0 then (if b == 0
 abbrev pub counts_text : Aig → List ℕ
 counts_text v = (((count_text v.max ++ count_text (length v.inputs)) ++ count_text (length v.latches)) ++ count_text (length v.outs)) ++ count_text (length v.gates)
 
+-- the header with this word
+abbrev pub head_by : List ℕ → Aig → List ℕ
+head_by word v = ((word ++ counts_text v) ++ further_text (length v.bads) (length v.cons) (length v.justice) (length v.fair)) ++ 10 ∷ []
+
 -- the header of the ASCII form
 abbrev pub head_text : Aig → List ℕ
-head_text v = (((97 ∷ 97 ∷ 103 ∷ []) ++ counts_text v) ++ further_text (length v.bads) (length v.cons) (length v.justice) (length v.fair)) ++ 10 ∷ []
+head_text v = head_by (97 ∷ 97 ∷ 103 ∷ []) v
 
 -- a number in a line of its own
 abbrev pub number_line : ℕ → List ℕ

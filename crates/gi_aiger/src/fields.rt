@@ -1,10 +1,10 @@
 // The fields of a line, and the numbers that they are.
-ghost use Rattle.std.specs.Prelude.{◌≡◌, ◌≢◌, ◌≤◌, ◌<◌, ◌+◌, ◌∷◌, [], ℕ, min, length, take, drop, slice_index, Some, None, IsTrue, ◌↔◌, IfOk, MatchOption};
+ghost use Rattle.std.specs.Prelude.{◌≡◌, ◌≢◌, ◌≤◌, ◌<◌, ◌+◌, ◌∷◌, [], ℕ, min, length, take, slice_index, Some, None, IsTrue, ◌↔◌, IfOk, MatchOption};
 ghost use Rattle.std.specs.Iterator.{YieldsFirstRef, item_count};
 ghost use Rattle.gi_text.specs.Numbers.{magnitude, size_of};
 ghost use Rattle.gi_aiger.specs.Fields.{fields_of, split_space, numbers_of, Keeps};
 
-use gi_text::{Number, read_number};
+use gi_text::{Number, read_number, skip};
 use std::alloc::{AllocError, Global};
 use std::marker::Model;
 
@@ -96,14 +96,6 @@ fn front(bytes: &[u8], n: usize) -> &[u8]
     ensures { result.now ≡ take n bytes.now }
 {
     &bytes[..n]
-}
-
-/// What stands from a place on.
-pub fn skip(bytes: &[u8], at: usize) -> &[u8]
-    requires { at ≤ length bytes.now }
-    ensures { result.now ≡ drop at bytes.now }
-{
-    &bytes[at..]
 }
 
 /// The unsigned number that a field is, up to `TOO_BIG`.

@@ -1,41 +1,22 @@
 // Gates as nodes: the places of their operands.
-ghost use Rattle.std.specs.Prelude.{◌≡◌, ◌≢◌, ◌/◌, ◌+◌, ℕ, length, map, take, slice_index_or, IfOk, OnOk, MatchOption};
+ghost use Rattle.std.specs.Prelude.{◌≡◌, ◌<◌, ℕ, length, All, IfOk, IfSome, MatchOption};
 ghost use Rattle.gi_aiger.specs.Levels.{HasLevels, ClosesCycle, IsDistinct};
-ghost use Rattle.gi_aiger.specs.Places.{ArePlaces, place_at, places_by_level, Resolves};
+ghost use Rattle.gi_aiger.specs.Places.{ArePlaces, places_by_level, Resolves};
+ghost use Rattle.gi_aiger.specs.Tables.{value_of};
 
 use crate::aig::AndGate;
+use crate::table::Table;
 use gi_levels::{Node, by_level};
 use std::alloc::{AllocError, Global};
 
-// The place of the gate that defines a variable, `none` where none does.
-fn place_at(places: &Vec<usize>, v: u32, none: usize) -> usize
-    ensures { result ≡ place_at places.now.items v none }
-{
-    let v = v as usize;
-    if v < places.len() { places[v] } else { none }
-}
-
-// A variable has another place.
-fn put(places: &mut Vec<usize>, v: u32, place: usize, none: usize) -> Result<(), AllocError>
-    ensures same { OnOk result (place_at places.new.items v none ≡ place) }
-    ensures other { OnOk result ((w : ℕ) → w ≢ v → place_at places.new.items w none ≡ place_at places.old.items w none) }
-{
-    let v = v as usize;
-    if v >= places.len() {
-        places.resize(v + 1, none)?;
-    }
-    places[v] = place;
-    Ok(())
-}
-
-// The places of the gates that define variables.
+// The places of the gates that define variables; how many gates there are for other variables.
 #[tactic(auto, using(crate::proofs::Resolving::no_places, crate::proofs::Resolving::more_places))]
-fn places_of(alloc: Global, gates: &[AndGate]) -> Result<Vec<usize>, AllocError>
-    ensures { IfOk result (λ places. ArePlaces gates.now places.items (length gates.now)) }
+fn places_of(alloc: Global, gates: &[AndGate]) -> Result<Table<usize>, AllocError>
+    ensures { IfOk result (λ places. ArePlaces gates.now (length gates.now) (value_of places)) }
 {
-    let mut places = Vec::new(alloc);
+    let mut places = Table::new(alloc, gates.len());
     for (place, gate) in gates.iter().enumerate() {
-        put(&mut places, gate.lhs.node(), place, gates.len())?;
+        places.put(gate.lhs.node(), place)?;
     }
     Ok(places)
 }
@@ -49,8 +30,8 @@ fn nodes_of(alloc: Global, gates: &[AndGate]) -> Result<Vec<Node>, AllocError>
     let mut nodes = Vec::new(alloc);
     for gate in gates {
         nodes.push(Node {
-            left: place_at(&places, gate.rhs0.node(), gates.len()),
-            right: place_at(&places, gate.rhs1.node(), gates.len()),
+            left: places.get(gate.rhs0.node()),
+            right: places.get(gate.rhs1.node()),
         })?;
     }
     Ok(nodes)
@@ -58,7 +39,8 @@ fn nodes_of(alloc: Global, gates: &[AndGate]) -> Result<Vec<Node>, AllocError>
 
 /// The place of the gate that closes the first cycle, if there is one; where no two define the same variable.
 pub fn first_cycle(alloc: Global, gates: &[AndGate]) -> Result<Option<usize>, AllocError>
-    ensures { IsDistinct gates.now → IfOk result (λ found. MatchOption found (HasLevels gates.now) (ClosesCycle gates.now)) }
+    ensures within { IfOk result (λ found. IfSome found (λ place. place < length gates.now)) }
+    ensures cycle { IsDistinct gates.now → IfOk result (λ found. MatchOption found (HasLevels gates.now) (ClosesCycle gates.now)) }
 {
     let nodes = nodes_of(alloc, gates)?;
     gi_levels::first_cycle(alloc, nodes.as_slice())
@@ -72,4 +54,17 @@ pub fn places_by_level(alloc: Global, gates: &[AndGate]) -> Result<Option<Vec<us
 {
     let nodes = nodes_of(alloc, gates)?;
     by_level(alloc, nodes.as_slice())
+}
+
+/// The places of gates without cycles, in the same order. No two may define the same variable.
+pub fn acyclic_places(alloc: Global, gates: &[AndGate]) -> Result<Vec<usize>, AllocError>
+    requires apart { IsDistinct gates.now }
+    requires acyclic { HasLevels gates.now }
+    ensures order { IfOk result (λ places. places.items ≡ places_by_level gates.now) }
+    ensures inside { IfOk result (λ places. All (λ k. k < length gates.now) places.items) }
+{
+    match places_by_level(alloc, gates)? {
+        Some(places) => Ok(places),
+        None => unreachable!(),
+    }
 }

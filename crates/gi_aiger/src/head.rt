@@ -5,6 +5,7 @@ ghost use Rattle.gi_aiger.specs.Fields.{numbers_of};
 
 use crate::fault::AigCode;
 use crate::fields::{number_at, read_numbers, split_field};
+use crate::limits::MOST_ITEMS;
 use std::alloc::{AllocError, Global};
 
 /// The two forms of AIGER.
@@ -30,9 +31,6 @@ pub struct Head {
     pub justice: u64,
     pub fair: u64,
 }
-
-/// The greatest number that a header may have.
-const MOST: u64 = 1_048_576;
 
 /// Only where all numbers are at most this is the greatest variable tried against them.
 const TRIED: u64 = 4_294_967_295;
@@ -94,15 +92,15 @@ fn is_wrong(head: Head) -> bool
 fn is_within(head: Head) -> bool
     ensures { result ≡ is_within head }
 {
-    head.max <= MOST
-        && head.inputs <= MOST
-        && head.latches <= MOST
-        && head.outs <= MOST
-        && head.gates <= MOST
-        && head.bads <= MOST
-        && head.cons <= MOST
-        && head.justice <= MOST
-        && head.fair <= MOST
+    head.max <= MOST_ITEMS
+        && head.inputs <= MOST_ITEMS
+        && head.latches <= MOST_ITEMS
+        && head.outs <= MOST_ITEMS
+        && head.gates <= MOST_ITEMS
+        && head.bads <= MOST_ITEMS
+        && head.cons <= MOST_ITEMS
+        && head.justice <= MOST_ITEMS
+        && head.fair <= MOST_ITEMS
 }
 
 // The header is tried before its limits.

@@ -1,12 +1,14 @@
 // What a machine has read at the end of the input.
-ghost use Rattle.std.specs.Prelude.{◌≡◌, ◌+◌, ◌++◌, Some, None, ℕ, take, drop, length, IfOk, IfSome};
+ghost use Rattle.std.specs.Prelude.{◌≡◌, ◌+◌, ◌<◌, ◌++◌, Some, None, ℕ, take, drop, length, IfOk};
 ghost use Rattle.gi_aiger.specs.Files.{aig_of, gates_line, shares, whole};
 ghost use Rattle.gi_aiger.specs.Levels.{IsDistinct};
 ghost use Rattle.gi_aiger.specs.Machine.{IsFit, answer, answer_now, answer_of};
+ghost use Rattle.gi_aiger.specs.Taking.{IsBounded};
 ghost use Rattle.gi_aiger.specs.Answers.{IsCycleAt, Reads, Tells};
 ghost use Rattle.gi_aiger.specs.declared.read.AigRead.TheVariants as reads;
 ghost use Rattle.gi_aiger.specs.declared.fault.AigCode.TheVariants as codes;
 ghost use Rattle.std.specs.Prelude.{◌≤◌, Err};
+ghost use Rattle.gi_aiger.specs.Limits.{most_items};
 
 use crate::aig::Aig;
 use crate::fault::{AigCode, AigFault};
@@ -21,9 +23,6 @@ use crate::taken::Taken;
 use gi_lit::Edge;
 use gi_text::Bytes;
 use std::alloc::{AllocError, Global};
-
-/// The greatest number of a gate.
-const TOP_GATE: u64 = 4_294_967_295;
 
 // The first literals, as many as there are.
 fn first_of(literals: &[Edge], count: usize) -> &[Edge]
@@ -69,7 +68,7 @@ fn aig_of(
     symbols: Named,
     comment: Option<Bytes>,
 ) -> Result<Aig, AllocError>
-    requires { head.max ≤ 1048576 }
+    requires { head.max ≤ most_items }
     ensures { IfOk result (λ aig. aig ≡ aig_of head taken symbols comment) }
 {
     let justice = shares(alloc, taken.sizes.as_slice(), taken.justice.as_slice())?;
@@ -102,7 +101,7 @@ fn aig_of(
 }
 
 fn value(alloc: Global, head: Head, taken: Taken, symbols: Named, comment: Option<Bytes>) -> AigRead
-    requires { head.max ≤ 1048576 }
+    requires { head.max ≤ most_items }
     ensures { Reads result (whole head taken symbols comment).read }
 {
     match aig_of(alloc, head, taken, symbols, comment) {
@@ -117,13 +116,11 @@ fn fault(line: u64, gate: u32, code: AigCode) -> AigRead
     AigRead::Fault(AigFault { line, gate, code })
 }
 
-// The input ends in a binary gate. There is no number for more gates than memory could hold.
+// The input ends in a binary gate.
 fn cut_gate(line: u64, gates: usize) -> AigRead
-    ensures { Reads result (Err (record { line = line; gate = gates + 1; code = codes.End })) }
+    requires { gates ≤ most_items }
+    ensures { result ≡ reads.Fault (record { line = line; gate = gates + 1; code = codes.End }) }
 {
-    if gates as u64 >= TOP_GATE {
-        return AigRead::NoMemory;
-    }
     fault(line, gates as u32 + 1, AigCode::End)
 }
 
@@ -152,31 +149,29 @@ fn answer_of(machine: Machine) -> AigRead
     }
 }
 
-// The line of the first gate, if there is a number for it.
-fn gates_line(taken: &Taken) -> Option<u64>
-    ensures { IfSome result (λ line. line ≡ gates_line taken.now) }
+// The line of the first gate.
+fn gates_line(taken: &Taken) -> u64
+    requires { IsBounded taken.now }
+    ensures { result ≡ gates_line taken.now }
 {
-    2u64.checked_add(taken.inputs.len() as u64)?
-        .checked_add(taken.latches.len() as u64)?
-        .checked_add(taken.outs.len() as u64)?
-        .checked_add(taken.bads.len() as u64)?
-        .checked_add(taken.cons.len() as u64)?
-        .checked_add(taken.sizes.len() as u64)?
-        .checked_add(taken.justice.len() as u64)?
-        .checked_add(taken.fair.len() as u64)
+    2 + taken.inputs.len() as u64
+        + taken.latches.len() as u64
+        + taken.outs.len() as u64
+        + taken.bads.len() as u64
+        + taken.cons.len() as u64
+        + taken.sizes.len() as u64
+        + taken.justice.len() as u64
+        + taken.fair.len() as u64
 }
 
 // The gate at a place closes a cycle.
 fn cycle_at(taken: &Taken, place: usize) -> AigRead
+    requires bounded { IsBounded taken.now }
+    requires place { place < length taken.now.gates }
     ensures { IsCycleAt result (gates_line taken.now + place) }
 {
-    match gates_line(taken) {
-        None => AigRead::NoMemory,
-        Some(first) => match first.checked_add(place as u64) {
-            None => AigRead::NoMemory,
-            Some(line) => fault(line, 0, AigCode::Cycle),
-        },
-    }
+    let _gates = taken.gates.len();
+    fault(gates_line(taken) + place as u64, 0, AigCode::Cycle)
 }
 
 // What the machine says.

@@ -8,6 +8,7 @@ ghost use Rattle.gi_aiger.specs.Sections.{behind};
 ghost use Rattle.gi_aiger.specs.Taking.{add_line};
 ghost use Rattle.gi_aiger.specs.Machine.{IsFit, byte_of_gate, byte_of_name, byte_in_line, comment_begins, difference_ends, failed, gate_ends, gates_or_names, greater_ends, head_ends, is_c, is_lenient, last_line, lesser_ends, line_by_phase, line_ends, new_line, no_head, phase_after, phase_from, row_ends, start, symbol_ends, take_byte};
 ghost use Rattle.gi_aiger.specs.Named.{add_symbol};
+ghost use Rattle.gi_aiger.specs.Limits.{most_items};
 
 use crate::aig::AndGate;
 use crate::fault::AigCode;
@@ -20,13 +21,9 @@ use crate::row::Section;
 use crate::sections::next_section;
 use crate::symbol::read_symbol;
 use crate::taken::{Taken, add_line, nothing};
-use crate::word::Word;
 use gi_lit::Edge;
 use gi_text::Bytes;
 use std::alloc::{AllocError, Global};
-
-/// The greatest code of a literal.
-const TOP_CODE: u64 = 4_294_967_295;
 
 /// A machine over the bytes of a file.
 #[derive(Drop)]
@@ -37,7 +34,7 @@ pub struct Machine {
     pub phase: Phase,
     pub head: Head,
     /// The line or the difference that is read.
-    pub word: Word,
+    pub word: Bytes,
     pub taken: Taken,
     pub symbols: Named,
     pub comment: Bytes,
@@ -70,7 +67,7 @@ pub fn new_machine(alloc: Global) -> Machine
         line: 1,
         phase: Phase::Heading,
         head: no_head(),
-        word: Word::new(alloc),
+        word: Bytes::new(alloc),
         taken: nothing(alloc),
         symbols: Named::new(alloc),
         comment: Bytes::new(alloc),
@@ -100,7 +97,7 @@ fn next_line(m: &mut Machine) -> Result<(), AllocError>
 // The literals of so many variables from the first on.
 #[tactic(auto, unfolding(crate::specs::Files::evens))]
 fn evens(alloc: Global, count: u64) -> Result<Edges, AllocError>
-    requires { count ≤ 1048576 }
+    requires { count ≤ most_items }
     ensures { IfOk result (λ edges. edges ≡ evens count) }
 {
     let mut edges = Edges::new(alloc);
@@ -112,7 +109,7 @@ fn evens(alloc: Global, count: u64) -> Result<Edges, AllocError>
 
 // What the header tells. The inputs of the binary form have no lines.
 fn begin(alloc: Global, head: &Head) -> Result<Taken, AllocError>
-    requires { head.now.inputs ≤ 1048576 }
+    requires { head.now.inputs ≤ most_items }
     ensures { IfOk result (λ taken. taken ≡ begin head.now) }
 {
     let mut taken = nothing(alloc);
@@ -282,20 +279,15 @@ fn take_in_name(m: &mut Machine, byte: u8) -> Result<(), AllocError>
     take_in_line(m, byte)
 }
 
-// The literal that the next binary gate defines. There is no code for more gates than memory could hold.
-fn own_gate(m: &Machine) -> Result<u32, AllocError>
-    requires fit { IsFit m.now }
-    ensures { IfOk result (λ own. own ≡ own_gate m.now.head m.now.taken) }
+// The literal that the next binary gate defines.
+fn own_gate(m: &Machine) -> u32
+    requires inputs { m.now.head.inputs ≤ most_items }
+    requires latches { m.now.head.latches ≤ most_items }
+    requires gates { length m.now.taken.gates ≤ most_items }
+    ensures { result ≡ own_gate m.now.head m.now.taken }
 {
     let gates = m.taken.gates.len() as u64;
-    if gates > TOP_CODE {
-        return Err(AllocError);
-    }
-    let own = 2 * (m.head.inputs + m.head.latches + gates + 1);
-    if own > TOP_CODE {
-        return Err(AllocError);
-    }
-    Ok(own as u32)
+    (2 * (m.head.inputs + m.head.latches + gates + 1)) as u32
 }
 
 // The greater operand, by its difference from the gate.
@@ -380,7 +372,7 @@ fn end_difference(m: &mut Machine, greater: Option<Edge>) -> Result<(), AllocErr
     requires fit { IsFit m.old }
     ensures { OnOk result (m.new ≡ difference_ends greater m.old.word m.old) }
 {
-    let own = own_gate(m)?;
+    let own = own_gate(m);
     let difference = read_difference(m.word.as_slice());
     match greater {
         None => {

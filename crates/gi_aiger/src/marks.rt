@@ -1,29 +1,35 @@
 // Which variables are used and which are defined.
-ghost use Rattle.std.specs.Prelude.{◌≡◌, ◌<◌, [], length, slice_index_or, slice_set, OnOk, OnErr};
+ghost use Rattle.std.specs.Prelude.{◌≡◌, ◌+◌, ◌<◌, [], ℕ, ◌^◌, true, if◌then◌else◌, OnOk, OnErr};
 ghost use Rattle.gi_aiger.specs.declared.mark.Mark.TheVariants as marks;
-ghost use Rattle.gi_aiger.specs.Marks.{is_fresh, is_used, mark_at, missing, reaches, used, with_mark};
+ghost use Rattle.gi_aiger.specs.Marks.{is_fresh, is_used, mark_at, missing, used, with_mark};
 
 use crate::mark::Mark;
+use crate::table::Table;
 use std::alloc::{AllocError, Global};
 use std::marker::Model;
 
 /// The marks of the variables. Contracts see their list; a variable past the last is fresh.
 #[derive(Drop)]
 pub struct Marks {
-    marks: Vec<Mark>,
+    table: Table<Mark>,
+    /// One more than the greatest variable that was marked.
+    len: usize,
+    /// How many variables are used and not defined.
     count: usize,
 }
 
 impl Model for Marks {
-    ghost use Rattle.std.specs.Prelude.{List, ◌≡◌};
+    ghost use Rattle.std.specs.Prelude.{List, map};
+    ghost use Rattle.std.specs.List.{range_with_len};
     ghost use Rattle.gi_aiger.specs.declared.mark.Mark.{Mark};
-    ghost use Rattle.gi_aiger.specs.Marks.{missing};
+    ghost use Rattle.gi_aiger.specs.Marks.{AreMarked};
+    ghost use Rattle.gi_aiger.specs.Tables.{value_of};
 
     ghost Value = { List Mark };
 
-    ghost view = { λ m. m.marks.items };
+    ghost view = { λ m. map (value_of m.table) (range_with_len 0 m.len) };
 
-    ghost invariant = { λ m. m.count ≡ missing m.marks.items };
+    ghost invariant = { λ m. AreMarked (value_of m.table) m.len m.count };
 }
 
 impl Marks {
@@ -32,7 +38,8 @@ impl Marks {
         ensures { result ≡ [] }
     {
         Marks {
-            marks: Vec::new(alloc),
+            table: Table::new(alloc, Mark::Fresh),
+            len: 0,
             count: 0,
         }
     }
@@ -41,11 +48,7 @@ impl Marks {
     pub fn mark_at(&self, v: u32) -> Mark
         ensures { result ≡ mark_at self.now v }
     {
-        if (v as usize) < self.marks.len() {
-            self.marks[v as usize]
-        } else {
-            Mark::Fresh
-        }
+        self.table.get(v)
     }
 
     /// How many variables are used and not defined.
@@ -55,32 +58,16 @@ impl Marks {
         self.count
     }
 
-    // Room for the mark of a variable.
-    fn reach(&mut self, v: u32) -> Result<(), AllocError>
-        ensures reached { OnOk result (self.new ≡ reaches v self.old) }
-        ensures room { OnOk result (v < length self.new) }
+    // Gives a variable another mark.
+    fn put(&mut self, v: u32, mark: Mark) -> Result<(), AllocError>
+        ensures ok { OnOk result (self.new ≡ with_mark v mark self.old) }
         ensures err { OnErr result (self.new ≡ self.old) }
     {
-        let place = v as usize;
-        if place >= self.marks.len() {
-            self.marks.resize(place + 1, Mark::Fresh)?;
-        }
+        let old = self.table.get(v);
+        self.table.put(v, mark)?;
+        self.count = recounted(self.count, old, mark);
+        self.len = self.len.max(v as usize + 1);
         Ok(())
-    }
-
-    // Gives a variable that has room another mark.
-    fn set(&mut self, v: u32, mark: Mark)
-        requires { v < length self.old }
-        ensures { self.new ≡ slice_set self.old v mark }
-    {
-        let place = v as usize;
-        if is_used(self.marks[place]) {
-            self.count -= 1;
-        }
-        if is_used(mark) {
-            self.count += 1;
-        }
-        self.marks[place] = mark;
     }
 
     /// A line defines a variable. For want of memory nothing changes.
@@ -88,9 +75,7 @@ impl Marks {
         ensures ok { OnOk result (self.new ≡ with_mark v marks.Defined self.old) }
         ensures err { OnErr result (self.new ≡ self.old) }
     {
-        self.reach(v)?;
-        self.set(v, Mark::Defined);
-        Ok(())
+        self.put(v, Mark::Defined)
     }
 
     /// A line uses a variable. For want of memory nothing changes.
@@ -101,10 +86,18 @@ impl Marks {
         if !is_fresh(self.mark_at(v)) {
             return Ok(());
         }
-        self.reach(v)?;
-        self.set(v, Mark::Used);
-        Ok(())
+        self.put(v, Mark::Used)
     }
+}
+
+// How many are used and not defined, where one mark takes another's place.
+fn recounted(count: usize, old: Mark, new: Mark) -> usize
+    requires some { is_used old ≡ true → 0 < count }
+    requires room { count < 2 ^ 63 }
+    ensures { result + (if is_used old then 1 else 0) ≡ count + (if is_used new then 1 else 0) }
+{
+    let rest = if is_used(old) { count - 1 } else { count };
+    if is_used(new) { rest + 1 } else { rest }
 }
 
 fn is_used(mark: Mark) -> bool

@@ -2,6 +2,7 @@
 ghost use Rattle.std.specs.Prelude.{◌≡◌, ◌≤◌, ℕ, List, Option, length, slice_index, IfOk};
 ghost use Rattle.gi_aiger.specs.Fields.{numbers_of, own_in, with_own, Keeps};
 ghost use Rattle.gi_aiger.specs.Rows.{has_row, literal_of, defining_of, reset_of, latch_of, gate_of, size_of, row_of, row_numbers, row_read};
+ghost use Rattle.gi_aiger.specs.Limits.{most_items};
 
 use crate::aig::{AndGate, Latch, Reset};
 use crate::fault::AigCode;
@@ -57,7 +58,7 @@ fn has_row(section: Section, count: usize) -> bool
 
 // A literal of the variables up to the greatest.
 fn literal_of(max: u64, n: u64) -> Result<Edge, AigCode>
-    requires { max ≤ 1048576 }
+    requires { max ≤ most_items }
     ensures { result ≡ literal_of max n }
 {
     if n > 2 * max + 1 {
@@ -68,7 +69,7 @@ fn literal_of(max: u64, n: u64) -> Result<Edge, AigCode>
 
 // A literal that defines its variable.
 fn defining_of(max: u64, n: u64) -> Result<Edge, AigCode>
-    requires { max ≤ 1048576 }
+    requires { max ≤ most_items }
     ensures { result ≡ defining_of max n }
 {
     if n % 2 == 0 && n >= 2 {
@@ -94,7 +95,7 @@ fn reset_of(lit: u64, n: u64) -> Result<Reset, AigCode>
 }
 
 fn latch_of(max: u64, lit: u64, next: u64, reset: u64) -> Result<Row, AigCode>
-    requires { max ≤ 1048576 }
+    requires { max ≤ most_items }
     ensures { result ≡ latch_of (defining_of max lit) (literal_of max next) (reset_of lit reset) }
 {
     match defining_of(max, lit) {
@@ -114,7 +115,7 @@ fn latch_of(max: u64, lit: u64, next: u64, reset: u64) -> Result<Row, AigCode>
 }
 
 fn gate_of(max: u64, lhs: u64, rhs0: u64, rhs1: u64) -> Result<Row, AigCode>
-    requires { max ≤ 1048576 }
+    requires { max ≤ most_items }
     ensures { result ≡ gate_of (defining_of max lhs) (literal_of max rhs0) (literal_of max rhs1) }
 {
     match defining_of(max, lhs) {
@@ -131,7 +132,7 @@ fn gate_of(max: u64, lhs: u64, rhs0: u64, rhs1: u64) -> Result<Row, AigCode>
 
 // A justice property's size.
 fn size_of(room: u64, n: u64) -> Result<u32, AigCode>
-    requires { room ≤ 1048576 }
+    requires { room ≤ most_items }
     ensures { result ≡ size_of room n }
 {
     if n > room {
@@ -142,8 +143,8 @@ fn size_of(room: u64, n: u64) -> Result<u32, AigCode>
 
 // What the numbers of a line say, if they are as many as the section has.
 fn row_of(max: u64, room: u64, section: Section, numbers: &[u64]) -> Result<Row, AigCode>
-    requires max { max ≤ 1048576 }
-    requires room { room ≤ 1048576 }
+    requires max { max ≤ most_items }
+    requires room { room ≤ most_items }
     ensures { result ≡ row_of max room section numbers.now }
 {
     let first = number_at(numbers, 0);
@@ -162,8 +163,8 @@ fn row_of(max: u64, room: u64, section: Section, numbers: &[u64]) -> Result<Row,
 
 // What the numbers of a line say.
 fn row_numbers(max: u64, room: u64, section: Section, numbers: &[u64]) -> Result<Row, AigCode>
-    requires max { max ≤ 1048576 }
-    requires room { room ≤ 1048576 }
+    requires max { max ≤ most_items }
+    requires room { room ≤ most_items }
     ensures { result ≡ row_numbers max room section numbers.now }
 {
     if has_row(section, numbers.len()) {
@@ -197,8 +198,8 @@ pub fn read_row(
     own: Option<u64>,
     line: &[u8],
 ) -> Result<Result<Row, AigCode>, AllocError>
-    requires max { max ≤ 1048576 }
-    requires room { room ≤ 1048576 }
+    requires max { max ≤ most_items }
+    requires room { room ≤ most_items }
     ensures { IfOk result (λ read. read ≡ row_read max room section (with_own own (numbers_of line.now))) }
 {
     match read_numbers(alloc, line)? {

@@ -4,11 +4,12 @@ ghost use Rattle.gi_text.specs.Numbers.{magnitude};
 ghost use Rattle.gi_aiger.specs.Symbols.{place_in, places_of, symbol_of, symbol_parts};
 ghost use Rattle.gi_aiger.specs.Fields.{split_space};
 ghost use Rattle.gi_aiger.specs.Header.{is_within};
+ghost use Rattle.gi_aiger.specs.Limits.{most_items};
 
 use crate::aig::Symbol;
-use crate::fields::{read_unsigned, skip, split_field};
+use crate::fields::{read_unsigned, split_field};
 use crate::head::Head;
-use gi_text::Bytes;
+use gi_text::{Bytes, skip};
 use std::alloc::{AllocError, Global};
 
 // How many places the section of a kind has.
@@ -42,7 +43,7 @@ fn places_of(head: &Head, kind: u8) -> u64
 
 // The place, if the section has it.
 fn place_of(places: u64, field: &[u8]) -> Option<u32>
-    requires { places ≤ 1048576 }
+    requires { places ≤ most_items }
     ensures place { result ≡ place_in places (magnitude field.now) }
     ensures some { IfSome result (λ place. 0 < places) }
 {
@@ -65,7 +66,7 @@ fn read_parts(
     kind: u8,
     rest: &[u8],
 ) -> Result<Option<Symbol>, AllocError>
-    requires { places ≤ 1048576 }
+    requires { places ≤ most_items }
     ensures read { IfOk result (λ read. read ≡ symbol_parts places kind (split_space rest.now)) }
     ensures kind { IfOk result (λ read. IfSome read (λ s. (s.kind ≡ kind) × (0 < places))) }
 {

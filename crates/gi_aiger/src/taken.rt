@@ -6,15 +6,15 @@ ghost use Rattle.gi_aiger.specs.Marks.{all_used, defined, marked, used_literal};
 ghost use Rattle.gi_aiger.specs.Taking.{Fits, Gives, add_by, add_line, add_row, is_defined, is_known, left_out, nothing, own_latch, room, to_come, with_row};
 ghost use Rattle.gi_aiger.specs.declared.head.Form.TheVariants as forms;
 ghost use Rattle.gi_aiger.specs.Header.{is_within};
+ghost use Rattle.gi_aiger.specs.Limits.{most_items};
 
 use crate::fault::AigCode;
-use crate::fields::TOO_BIG;
 use crate::head::{Form, Head};
-use crate::lists::{Edges, Gates, Latches};
+use crate::limits::MOST_ITEMS;
+use crate::lists::{Edges, Gates, Latches, Sizes};
 use crate::mark::Mark;
 use crate::marks::Marks;
 use crate::row::{Row, Section, read_row};
-use crate::sizes::Sizes;
 use gi_lit::Edge;
 use std::alloc::{AllocError, Global};
 
@@ -38,9 +38,6 @@ pub struct Taken {
     pub marks: Marks,
 }
 
-/// The most literals that all justice properties together may have.
-const MOST_JUSTICE: u64 = 1_048_576;
-
 /// Nothing. Takes no memory.
 pub fn nothing(alloc: Global) -> Taken
     ensures { result ≡ nothing }
@@ -62,7 +59,7 @@ pub fn nothing(alloc: Global) -> Taken
 
 // A line's row goes to its list.
 fn push_row(taken: &mut Taken, row: Row) -> Result<(), AllocError>
-    requires sum { taken.old.total ≤ 1048576 }
+    requires sum { taken.old.total ≤ most_items }
     requires fits { Fits (room taken.old) row }
     ensures { OnOk result (taken.new ≡ with_row taken.old row) }
 {
@@ -168,8 +165,8 @@ fn mark(marks: &mut Marks, row: &Row) -> Result<(), AllocError>
 
 // The latch and gate lines that are still to come behind a line.
 fn to_come_after(head: &Head, taken: &Taken, row: &Row) -> u64
-    requires latches { head.now.latches ≤ 1048576 }
-    requires gates { head.now.gates ≤ 1048576 }
+    requires latches { head.now.latches ≤ most_items }
+    requires gates { head.now.gates ≤ most_items }
     ensures { result ≡ to_come head.now (with_row taken.now row.now) }
 {
     let latches = head.latches.saturating_sub(taken.latches.len() as u64);
@@ -204,9 +201,9 @@ fn add_checked(
     head: &Head,
     row: Row,
 ) -> Result<Option<AigCode>, AllocError>
-    requires latches { head.now.latches ≤ 1048576 }
-    requires gates { head.now.gates ≤ 1048576 }
-    requires sum { taken.old.total ≤ 1048576 }
+    requires latches { head.now.latches ≤ most_items }
+    requires gates { head.now.gates ≤ most_items }
+    requires sum { taken.old.total ≤ most_items }
     requires fits { Fits (room taken.old) row }
     ensures { IfOk result (λ code. Gives code (add_by forms.Ascii head.now taken.old row) taken.old taken.new) }
 {
@@ -228,9 +225,9 @@ fn add_row(
     head: &Head,
     row: Row,
 ) -> Result<Option<AigCode>, AllocError>
-    requires latches { head.now.latches ≤ 1048576 }
-    requires gates { head.now.gates ≤ 1048576 }
-    requires sum { taken.old.total ≤ 1048576 }
+    requires latches { head.now.latches ≤ most_items }
+    requires gates { head.now.gates ≤ most_items }
+    requires sum { taken.old.total ≤ most_items }
     requires fits { Fits (room taken.old) row }
     ensures { IfOk result (λ code. Gives code (add_row head.now taken.old row) taken.old taken.new) }
 {
@@ -263,16 +260,13 @@ fn left_out(form: Form, section: Section, own: u64) -> Option<u64>
     }
 }
 
-// The literal of the next latch in the binary form. There is no code for more latches than memory could hold.
-fn own_latch(head: &Head, taken: &Taken) -> Result<u64, AllocError>
-    requires { head.now.inputs ≤ 1048576 }
-    ensures { IfOk result (λ own. own ≡ own_latch head.now taken.now) }
+// The literal of the next latch in the binary form.
+fn own_latch(head: &Head, taken: &Taken) -> u64
+    requires inputs { head.now.inputs ≤ most_items }
+    requires latches { length taken.now.latches ≤ most_items }
+    ensures { result ≡ own_latch head.now taken.now }
 {
-    let latches = taken.latches.len() as u64;
-    if latches > TOO_BIG {
-        return Err(AllocError);
-    }
-    Ok(2 * (head.inputs + latches + 1))
+    2 * (head.inputs + taken.latches.len() as u64 + 1)
 }
 
 /// A line of a section, behind those so far. `Some` is the line's first fault: then what those before it said still stands.
@@ -284,11 +278,12 @@ pub fn add_line(
     line: &[u8],
 ) -> Result<Option<AigCode>, AllocError>
     requires within { is_within head.now ≡ true }
-    requires sum { taken.old.total ≤ 1048576 }
+    requires sum { taken.old.total ≤ most_items }
+    requires latches { length taken.old.latches ≤ most_items }
     ensures { IfOk result (λ code. Gives code (add_line head.now taken.old section line.now) taken.old taken.new) }
 {
-    let room = MOST_JUSTICE - u64::from(taken.total);
-    let own = left_out(head.form, section, own_latch(head, taken)?);
+    let room = MOST_ITEMS - u64::from(taken.total);
+    let own = left_out(head.form, section, own_latch(head, taken));
     match read_row(alloc, head.max, room, section, own, line)? {
         Err(code) => Ok(Some(forget(taken, alloc, code))),
         Ok(row) => add_row(taken, alloc, head, row),

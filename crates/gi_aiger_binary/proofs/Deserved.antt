@@ -16,10 +16,10 @@ use Rattle.gi_aiger.specs.Relation as said
 use Rattle.gi_aiger.specs.Rows.{defined_variables}
 use Rattle.gi_aiger.proofs.Limiting.{are_within}
 use Rattle.gi_aiger.proofs.Sounding.{variables_are, defining_all}
-use Rattle.gi_aiger_binary.specs.Levels.{var_at}
 use Rattle.gi_aiger_binary.specs.Numbered.{AreSymbols, head_of_aig, IsInLimits}
 use Rattle.gi_aiger_binary.specs.Renumbering.{variables_of}
 use Rattle.gi_aiger_binary.specs.Sound.{IsSound, IsWritable}
+use Rattle.gi_aiger_binary.proofs.InOrder.{var_at}
 use Rattle.gi_aiger_binary.proofs.Numberings.{map-map}
 
 all_left : {X : Type 0} (P : X → Type 0) (xs ys : List X) → All P (xs ++ ys) → All P xs

@@ -9,7 +9,15 @@ use Rattle.gi_aiger.specs.declared.aig.Latch.{Latch}
 use Rattle.gi_aiger_binary.specs.Renumbering.{further, place_among, number_in, variables_of, literal_by, latch_by, gate_by, renumbered}
 use Rattle.gi_aiger_binary.specs.Numbered.{evens_from, AreWithin, IsFalling, IsNumbered}
 use Rattle.gi_aiger_binary.proofs.Numberings.{map-map}
-use Rattle.gi_aiger_binary.proofs.InPlace.{up_from, length-up}
+
+-- so many numbers from one on
+abbrev up_from : ℕ → ℕ → List ℕ
+up_from v zero = []
+up_from v (suc n) = v ∷ up_from (suc v) n
+
+length-up : (v n : ℕ) → length (up_from v n) ≡ n
+length-up v zero = refl
+length-up v (suc n) = ap suc (length-up (suc v) n)
 
 halves : (v n : ℕ) → map (λ l. l / 2) (evens_from v n) ≡ up_from v n
 halves v zero = refl

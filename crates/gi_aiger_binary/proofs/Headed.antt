@@ -14,6 +14,7 @@ use Rattle.gi_aiger.specs.Lines.{is_plain}
 use Rattle.gi_aiger.specs.Texts.{count_text, further_text}
 use Rattle.gi_aiger_binary.specs.Numbered.{head_of_aig}
 use Rattle.gi_aiger_binary.proofs.Counts.{AreSmall, counts, fields_counts, numbers_counts, plain_append, plain_counts}
+use Rattle.gi_aiger.specs.Limits.{most_items}
 
 -- the further counts that are written
 abbrev further : ℕ → ℕ → ℕ → ℕ → List ℕ
@@ -50,7 +51,7 @@ record Further (b c j f : ℕ) (xs : List ℕ) : Type 0 where
   third : get_or xs 2 0 ≡ j
   fourth : get_or xs 3 0 ≡ f
 
-further_read : (b c j f : ℕ) → b ≤ 1048576 → c ≤ 1048576 → j ≤ 1048576 → f ≤ 1048576 → Further b c j f (further b c j f)
+further_read : (b c j f : ℕ) → b ≤ most_items → c ≤ most_items → j ≤ most_items → f ≤ most_items → Further b c j f (further b c j f)
 further_read b c j f lb lc lj lf = elim (eqb_tells f 0) [
   | inr nf ↦ rw nf.0 (record { few = omega arith; small = (omega arith, (omega arith, (omega arith, (omega arith, tt)))); first = refl; second = refl; third = refl; fourth = refl })
   | inl ef ↦ rw ef.0 (elim (eqb_tells j 0) [
@@ -75,7 +76,7 @@ same_eqb n = elim (eqb_tells n n) [ inl t ↦ t.0 | inr f ↦ absurd (f.1 refl) 
 judged : (h : Head) → is_wrong h ≡ false → is_within h ≡ true → judge_head h ≡ Ok h
 judged h right within = rw right (rw within refl)
 
-module _ (v : Aig) (variables : length v.inputs + length v.latches + length v.gates ≤ 1048576) (outs : length v.outs ≤ 1048576) (bads : length v.bads ≤ 1048576) (constraints : length v.cons ≤ 1048576) (justice : length v.justice ≤ 1048576) (fair : length v.fair ≤ 1048576) where
+module _ (v : Aig) (variables : length v.inputs + length v.latches + length v.gates ≤ most_items) (outs : length v.outs ≤ most_items) (bads : length v.bads ≤ most_items) (constraints : length v.cons ≤ most_items) (justice : length v.justice ≤ most_items) (fair : length v.fair ≤ most_items) where
   abbrev most : ℕ
   most = length v.inputs + length v.latches + length v.gates
 
@@ -83,7 +84,7 @@ module _ (v : Aig) (variables : length v.inputs + length v.latches + length v.ga
   right = ap (λ (b : Bool). is_tried (head_of_aig v) && not b) (same_eqb most) ∙ and_false (is_tried (head_of_aig v))
 
   pub within : is_within (head_of_aig v) ≡ true
-  within = rw (le-leb most 1048576 variables) (rw (le-leb (length v.inputs) 1048576 (omega arith)) (rw (le-leb (length v.latches) 1048576 (omega arith)) (rw (le-leb (length v.outs) 1048576 outs) (rw (le-leb (length v.gates) 1048576 (omega arith)) (rw (le-leb (length v.bads) 1048576 bads) (rw (le-leb (length v.cons) 1048576 constraints) (rw (le-leb (length v.justice) 1048576 justice) (rw (le-leb (length v.fair) 1048576 fair) refl))))))))
+  within = rw (le-leb most most_items variables) (rw (le-leb (length v.inputs) most_items (omega arith)) (rw (le-leb (length v.latches) most_items (omega arith)) (rw (le-leb (length v.outs) most_items outs) (rw (le-leb (length v.gates) most_items (omega arith)) (rw (le-leb (length v.bads) most_items bads) (rw (le-leb (length v.cons) most_items constraints) (rw (le-leb (length v.justice) most_items justice) (rw (le-leb (length v.fair) most_items fair) refl))))))))
 
   abbrev more : List ℕ
   more = further (length v.bads) (length v.cons) (length v.justice) (length v.fair)

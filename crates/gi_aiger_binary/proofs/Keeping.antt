@@ -10,7 +10,9 @@ use Rattle.gi_aiger.specs.declared.aig.Aig.{Aig}
 use Rattle.gi_aiger.specs.declared.aig.AndGate.{AndGate}
 use Rattle.gi_aiger.specs.declared.aig.Latch.{Latch}
 use Rattle.gi_aiger_binary.specs.Meaning.{value_of, AgreesWith, MeansTheSame}
-use Rattle.gi_aiger_binary.specs.Renumbering.{further, place_among, number_in, variables_of, literal_by, gate_by, IsRenumbered}
+use Rattle.gi_aiger_binary.specs.Renumbering.{further, place_among, number_in, variables_of, literal_by, gate_by, in_order, numbered_anew}
+use Rattle.gi_aiger_binary.specs.Sound.{IsWritable}
+use Rattle.gi_aiger_binary.proofs.InOrder.{ordered_is}
 use Rattle.gi_aiger_binary.proofs.Placing.{place_at, gates_permuted}
 
 -- a variable in the order has a place
@@ -88,19 +90,18 @@ module _ (number : ℕ → ℕ) (values : ℕ → Bool) where
   all_agree_again : (gs : List AndGate) → All (AgreesWith old) gs → All (AgreesWith values) (map (gate_by number) gs)
   all_agree_again gs h = All-map (AgreesWith values) (gate_by number) gs (All-weaker (AgreesWith old) (λ g. AgreesWith values (gate_by number g)) agrees_again gs h)
 
-pub meaning_stays : (v w : Aig) (r : IsRenumbered v w) → MeansTheSame (number_in (variables_of v r.gates)) v w
-meaning_stays v w r =
-    let moved : IsPermutation v.gates r.gates = gates_permuted v.gates r.gates r.order in
-    let are : w.gates ≡ map (gate_by (number_in (variables_of v r.gates))) r.gates = ap (λ (u : Aig). u.gates) r.are in
-    let variables : IsPermutation (variables_of v v.gates) (variables_of v r.gates) =
-    IsPermutation-append_right (map (λ l. l / 2) v.inputs ++ map (λ (l : Latch). l.lit / 2) v.latches) (map (λ (g : AndGate). g.lhs / 2) v.gates) (map (λ (g : AndGate). g.lhs / 2) r.gates) (IsPermutation-map (λ (g : AndGate). g.lhs / 2) v.gates r.gates moved) in
+pub meaning_stays : (v : Aig) → IsWritable v → MeansTheSame (number_in (variables_of v (in_order v.gates))) v (numbered_anew v)
+meaning_stays v w =
+    let moved : IsPermutation v.gates (in_order v.gates) = gates_permuted v.gates (in_order v.gates) (ordered_is v.gates w.apart w.levels) in
+    let variables : IsPermutation (variables_of v v.gates) (variables_of v (in_order v.gates)) =
+    IsPermutation-append_right (map (λ l. l / 2) v.inputs ++ map (λ (l : Latch). l.lit / 2) v.latches) (map (λ (g : AndGate). g.lhs / 2) v.gates) (map (λ (g : AndGate). g.lhs / 2) (in_order v.gates)) (IsPermutation-map (λ (g : AndGate). g.lhs / 2) v.gates (in_order v.gates) moved) in
     record {
       constant = refl;
-      numbered = λ x some c. rw (ne_eqb x 0 some) (has_place (variables_of v r.gates) x (Contains-permutation (variables_of v v.gates) (variables_of v r.gates) x variables c));
-      apart = numbers_apart (variables_of v r.gates);
-      literals = λ values l. value_by (number_in (variables_of v r.gates)) values l;
+      numbered = λ x some c. rw (ne_eqb x 0 some) (has_place (variables_of v (in_order v.gates)) x (Contains-permutation (variables_of v v.gates) (variables_of v (in_order v.gates)) x variables c));
+      apart = numbers_apart (variables_of v (in_order v.gates));
+      literals = λ values l. value_by (number_in (variables_of v (in_order v.gates))) values l;
       gates = λ values. (
-        λ h. All-permutation (AgreesWith (λ x. values (number_in (variables_of v r.gates) x))) r.gates v.gates (IsPermutation-sym v.gates r.gates moved) (all_agree (number_in (variables_of v r.gates)) values r.gates (subst (λ (gs : List AndGate). All (AgreesWith values) gs) are h)),
-        λ h. subst (λ (gs : List AndGate). All (AgreesWith values) gs) (sym are) (all_agree_again (number_in (variables_of v r.gates)) values r.gates (All-permutation (AgreesWith (λ x. values (number_in (variables_of v r.gates) x))) v.gates r.gates moved h)),
+        λ h. All-permutation (AgreesWith (λ x. values (number_in (variables_of v (in_order v.gates)) x))) (in_order v.gates) v.gates (IsPermutation-sym v.gates (in_order v.gates) moved) (all_agree (number_in (variables_of v (in_order v.gates))) values (in_order v.gates) h),
+        λ h. (all_agree_again (number_in (variables_of v (in_order v.gates))) values (in_order v.gates) (All-permutation (AgreesWith (λ x. values (number_in (variables_of v (in_order v.gates)) x))) v.gates (in_order v.gates) moved h)),
       );
     }

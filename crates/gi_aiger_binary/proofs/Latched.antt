@@ -17,11 +17,12 @@ use Rattle.gi_aiger.specs.Texts.{reset_text}
 use Rattle.gi_aiger_binary.specs.Numbered.{evens_from, AreWithin, head_of_aig}
 use Rattle.gi_aiger_binary.proofs.Counts.{line_numbers, plain_append, plain_decimal, plain_counts}
 use Rattle.gi_aiger_binary.proofs.Rowed.{AllAdd, takes, reset_numbers, reset_counts, reset_small, parts_are}
+use Rattle.gi_aiger.specs.Limits.{most_items}
 
 abbrev pub words_of : Latch → List ℕ
 words_of l = decimal l.next ++ reset_text l.lit l.reset
 
-module _ (v : Aig) (limit : length v.inputs + length v.latches + length v.gates ≤ 1048576) where
+module _ (v : Aig) (limit : length v.inputs + length v.latches + length v.gates ≤ most_items) where
   abbrev top : ℕ
   top = length v.inputs + length v.latches + length v.gates
 

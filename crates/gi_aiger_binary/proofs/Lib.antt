@@ -1,6 +1,6 @@
-pub mod Ordering
 pub mod Grouping
 pub mod Numbering
+pub mod InOrder
 pub mod Renumbered
 pub mod Spelling
 pub mod Counts

@@ -23,6 +23,7 @@ use Rattle.gi_aiger.proofs.Lining.{joined_lines, plain_cons, bare_whole}
 use Rattle.gi_aiger_binary.specs.Numbered.{IsSymbolOf, AreSymbols}
 use Rattle.gi_aiger_binary.proofs.Counts.{both, no_space, decimal_digits, plain_append, plain_decimal}
 use Rattle.gi_aiger_binary.proofs.Rowed.{line_first}
+use Rattle.gi_aiger.specs.Limits.{most_items}
 
 abbrev parts : List ℕ → List ℕ → Option (List ℕ × List ℕ)
 parts xs ys = Some (xs, ys)
@@ -48,7 +49,7 @@ no_comment kind (d ∷ ds) more h some =
     and_false true = refl
     and_false false = refl
 
-module _ (h : Head) (limit : (kind : ℕ) → places_of h kind ≤ 1048576) where
+module _ (h : Head) (limit : (kind : ℕ) → places_of h kind ≤ most_items) where
   no_end : (s : Symbol) → IsSymbolOf h s → (s.kind == 10) ≡ false
   no_end s is = elim (cases_eq s.kind 10) [
     | inl e ↦ (let none : s.place < 0 = subst (λ (kind : ℕ). s.place < places_of h kind) e is.there in absurd (omega arith))

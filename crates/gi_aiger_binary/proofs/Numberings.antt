@@ -11,13 +11,14 @@ use Rattle.gi_aiger.specs.declared.aig.Latch.{Latch}
 use Rattle.gi_aiger.specs.declared.head.Form.TheVariants.{Binary}
 use Rattle.gi_aiger.specs.declared.head.Head.{Head}
 use Rattle.gi_aiger.specs.Levels.{gate_at}
-use Rattle.gi_aiger_binary.specs.Levels.{IsByLevel}
 use Rattle.gi_aiger_binary.specs.Renumbering.{place_among, number_in, variables_of, literal_by, latch_by, gate_by, renumbered}
 use Rattle.gi_aiger_binary.specs.Numbered.{evens_from, AreWithin, IsFalling, IsNumbered, IsInLimits, AreSymbols, head_of_aig}
 use Rattle.gi_aiger_binary.specs.Sound.{IsDefining, IsSound}
 use Rattle.gi_aiger_binary.proofs.Numbering.{number_bound}
-use Rattle.gi_aiger_binary.proofs.Renumbered.{ranks_of_gates, length-ordered, length-variables}
-use Rattle.gi_aiger_binary.proofs.Placing.{place_at, number_is, evens_at, levels_rise, rank_tells, gates_permuted, variables_distinct}
+use Rattle.gi_aiger_binary.proofs.InOrder.{IsByLevel, places_inside}
+use Rattle.gi_aiger_binary.proofs.Renumbered.{length-ordered, length-variables}
+use Rattle.gi_aiger_binary.proofs.Placing.{place_at, number_is, evens_at, gates_permuted, variables_distinct}
+use Rattle.gi_aiger.specs.Limits.{most_items}
 
 pub map-map : {X Y Z : Type 0} (f : Y → Z) (g : X → Y) (xs : List X) → map f (map g xs) ≡ map (λ (x : X). f (g x)) xs
 map-map f g [] = refl
@@ -111,26 +112,30 @@ module _ (v : Aig) (ordered : List AndGate) (o : IsByLevel v.gates ordered) (s :
       ∙ (let e : 2 * suc (ni + nl + k) ≡ 2 * (ni + nl + 1 + k) = omega arith in e)
 
   -- levels by place
-  abbrev pub rank_at : ℕ → ℕ × ℕ
-  rank_at k = get_or o.ranks k (0, 0)
+  abbrev pub level_at : ℕ → ℕ
+  level_at k = o.level ((gate_at ordered k).lhs / 2)
 
-  pub length-ranks : length o.ranks ≡ length ordered
-  length-ranks = sym (length-map o.ranks (λ (r : ℕ × ℕ). gate_at v.gates r.1)) ∙ ap (λ (gs : List AndGate). length gs) (sym o.are)
+  length-places : length o.places ≡ length ordered
+  length-places = sym (length-map o.places (gate_at v.gates)) ∙ ap (λ (gs : List AndGate). length gs) (sym o.are)
 
-  ordered_at : (k : ℕ) → k < length ordered → gate_at ordered k ≡ gate_at v.gates (rank_at k).1
-  ordered_at k lt = ap (λ (gs : List AndGate). gate_at gs k) o.are ∙ get_or-map (λ (r : ℕ × ℕ). gate_at v.gates r.1) o.ranks k (0, 0) (record { lhs = 0; rhs0 = 0; rhs1 = 0 }) (omega (arith, length-ranks))
+  ordered_at : (k : ℕ) → k < length ordered → gate_at ordered k ≡ gate_at v.gates (get_or o.places k 0)
+  ordered_at k lt = ap (λ (gs : List AndGate). gate_at gs k) o.are ∙ get_or-map (gate_at v.gates) o.places k 0 (record { lhs = 0; rhs0 = 0; rhs1 = 0 }) (omega (arith, lt, length-places))
 
-  pub level_is : (k : ℕ) → k < length ordered → o.level ((gate_at ordered k).lhs / 2) ≡ (rank_at k).0
-  level_is k lt = ap (λ (g : AndGate). o.level (g.lhs / 2)) (ordered_at k lt) ∙ sym (rank_tells v.gates o.level o.ranks o.order k (0, 0) (omega (arith, length-ranks)))
-
-  pub level_over : (k : ℕ) → k < length ordered → (rank_at k).0 ≡ suc (max (o.level ((gate_at ordered k).rhs0 / 2)) (o.level ((gate_at ordered k).rhs1 / 2)))
+  pub level_over : (k : ℕ) → k < length ordered → level_at k ≡ suc (max (o.level ((gate_at ordered k).rhs0 / 2)) (o.level ((gate_at ordered k).rhs1 / 2)))
   level_over k lt =
-      rank_tells v.gates o.level o.ranks o.order k (0, 0) (omega (arith, length-ranks))
-      ∙ o.levels.gate (rank_at k).1 (ranks_of_gates v.gates o.level o.ranks o.order k (0, 0) (omega (arith, length-ranks)))
+      ap (λ (g : AndGate). o.level (g.lhs / 2)) (ordered_at k lt)
+      ∙ o.levels.gate (get_or o.places k 0) (places_inside v.gates ordered o k 0 (omega (arith, lt, length-places)))
       ∙ ap (λ (g : AndGate). suc (max (o.level (g.rhs0 / 2)) (o.level (g.rhs1 / 2)))) (sym (ordered_at k lt))
 
+  pub levels_rise : (i j : ℕ) → i ≤ j → j < length ordered → level_at i ≤ level_at j
+  levels_rise i j le lt =
+      let up = o.order.rises i j 0 le (omega (arith, lt, length-places)) in
+      let p = ap (λ (g : AndGate). o.level (g.lhs / 2)) (ordered_at i (omega (arith, le, lt))) in
+      let q = ap (λ (g : AndGate). o.level (g.lhs / 2)) (ordered_at j lt) in
+      omega (arith, up, p, q)
+
   -- a variable of a lower level stands before the gate
-  place_below : (k x : ℕ) → k < length ordered → o.level x < (rank_at k).0 → place_among vs x ≤ ni + nl + k
+  place_below : (k x : ℕ) → k < length ordered → o.level x < level_at k → place_among vs x ≤ ni + nl + k
   place_below k x lt low = elim (cases_lt (ni + nl) (place_among vs x)) [
     | inr le ↦ omega arith
     | inl gt ↦
@@ -141,14 +146,14 @@ module _ (v : Aig) (ordered : List AndGate) (o : IsByLevel v.gates ordered) (s :
         let jl : place_among vs x - 1 - (ni + nl) < length ordered = omega (arith, n, inside) in
         let here : (gate_at ordered (place_among vs x - 1 - (ni + nl))).lhs / 2 ≡ x =
         sym (gate_place (place_among vs x - 1 - (ni + nl)) (record { lhs = 0; rhs0 = 0; rhs1 = 0 }) jl) ∙ ap (λ (i : ℕ). get_or vs i 0) (let e : ni + nl + (place_among vs x - 1 - (ni + nl)) ≡ place_among vs x - 1 = omega arith in e) ∙ r.1 in
-        let level : o.level x ≡ (rank_at (place_among vs x - 1 - (ni + nl))).0 = ap o.level (sym here) ∙ level_is (place_among vs x - 1 - (ni + nl)) jl in
+        let level : o.level x ≡ level_at (place_among vs x - 1 - (ni + nl)) = ap o.level (sym here) in
         elim (cases_lt (place_among vs x - 1 - (ni + nl)) k) [
           | inl below ↦ omega arith
-          | inr over ↦ absurd (let up = levels_rise o.ranks o.order.sorted k (place_among vs x - 1 - (ni + nl)) (0, 0) over (omega (arith, length-ranks, jl)) in omega (arith, up, level, low))
+          | inr over ↦ absurd (let up = levels_rise k (place_among vs x - 1 - (ni + nl)) over jl in omega (arith, up, level, low))
         ])
   ]
 
-  pub number_below : (k x : ℕ) → k < length ordered → o.level x < (rank_at k).0 → number_in vs x ≤ ni + nl + k
+  pub number_below : (k x : ℕ) → k < length ordered → o.level x < level_at k → number_in vs x ≤ ni + nl + k
   number_below k x lt low = by_test (x == 0) where
     by_test : (b : Bool) → cond b 0 (place_among vs x) ≤ ni + nl + k
     by_test true = omega arith
@@ -206,12 +211,12 @@ module _ (v : Aig) (ordered : List AndGate) (o : IsByLevel v.gates ordered) (s :
   is_in_limits =
       let l = s.limits in
       record {
-        variables = subst (λ (h : Head). h.max ≤ 1048576) (sym same_head) l.variables;
-        outs = subst (λ (n : ℕ). n ≤ 1048576) (sym (length-map v.outs (literal_by number))) l.outs;
-        bads = subst (λ (n : ℕ). n ≤ 1048576) (sym (length-map v.bads (literal_by number))) l.bads;
-        cons = subst (λ (n : ℕ). n ≤ 1048576) (sym (length-map v.cons (literal_by number))) l.cons;
-        justice = subst (λ (n : ℕ). n ≤ 1048576) (sym (length-map v.justice (map (literal_by number)))) l.justice;
-        sizes = subst (λ (n : ℕ). n ≤ 1048576) (sym (length-map (flat_map (λ p. p) v.justice) (literal_by number)) ∙ ap (λ (xs : List ℕ). length xs) (sym (flat-map (literal_by number) v.justice))) l.sizes;
-        fair = subst (λ (n : ℕ). n ≤ 1048576) (sym (length-map v.fair (literal_by number))) l.fair;
+        variables = subst (λ (h : Head). h.max ≤ most_items) (sym same_head) l.variables;
+        outs = subst (λ (n : ℕ). n ≤ most_items) (sym (length-map v.outs (literal_by number))) l.outs;
+        bads = subst (λ (n : ℕ). n ≤ most_items) (sym (length-map v.bads (literal_by number))) l.bads;
+        cons = subst (λ (n : ℕ). n ≤ most_items) (sym (length-map v.cons (literal_by number))) l.cons;
+        justice = subst (λ (n : ℕ). n ≤ most_items) (sym (length-map v.justice (map (literal_by number)))) l.justice;
+        sizes = subst (λ (n : ℕ). n ≤ most_items) (sym (length-map (flat_map (λ p. p) v.justice) (literal_by number)) ∙ ap (λ (xs : List ℕ). length xs) (sym (flat-map (literal_by number) v.justice))) l.sizes;
+        fair = subst (λ (n : ℕ). n ≤ most_items) (sym (length-map v.fair (literal_by number))) l.fair;
         symbols = subst (λ (h : Head). AreSymbols h [] v.symbols) (sym same_head) l.symbols;
       }

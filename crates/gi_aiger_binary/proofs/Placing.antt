@@ -1,21 +1,22 @@
 -- The numbers of variables that are defined once each, and gates behind their operands.
 use Rattle.std.proofs.Common.{◌≡◌, ◌≢◌, ℕ, zero, suc, ◌+◌, ◌*◌, ◌/◌, ◌<◌, ◌≤◌, eqb, true, false, cond, List, [], ◌∷◌, ◌++◌, length, map, get_or, ◌⊎◌, inl, inr, refl, ap, sym, ◌∙◌, subst, arith}
 use Rattle.std.specs.Prelude.{◌==◌}
-use Rattle.std.specs.List.{All, AllPairs, AllByRecursion, IsDistinct}
-use Rattle.std.specs.List.Sorted.{IsPermutation, IsSorted, IsNonDecreasingBy}
-use Rattle.std.specs.Ordering.{nat_cmp, ordering_then, is_lt}
-use Rattle.std.proofs.lemmas.Bool.{cases_lt, lt-ltb, ne_eqb}
+use Rattle.std.specs.List.{AllPairs, AllByRecursion, IsDistinct, range_with_len}
+use Rattle.std.specs.List.Sorted.{IsPermutation}
+use Rattle.std.proofs.lemmas.Bool.{ne_eqb}
 use Rattle.std.proofs.lemmas.Bool.Decides.{Decides-eqb, eqb_tells}
-use Rattle.std.proofs.lemmas.List.Sorted.{All-permutation, IsPermutation-map, IsPermutation-append_right, IsNonDecreasingBy-from_all_adjacent}
+use Rattle.std.proofs.lemmas.List.{length-map, get_or-map, ext_get_or}
+use Rattle.std.proofs.lemmas.List.FromFn.{length-range_with_len, get_or-range_with_len}
+use Rattle.std.proofs.lemmas.List.Sorted.{IsPermutation-map, IsPermutation-append_right}
 use Rattle.std.proofs.lemmas.Map.Keys.{IsDistinct-IsPermutation, IsDistinct-head, IsDistinct-tail}
 use Rattle.std.proofs.lemmas.Map.Made.{IsDistinct-from_AllPairs}
 use Rattle.gi_aiger.specs.declared.aig.Aig.{Aig}
 use Rattle.gi_aiger.specs.declared.aig.AndGate.{AndGate}
 use Rattle.gi_aiger.specs.declared.aig.Latch.{Latch}
 use Rattle.gi_aiger.specs.Levels.{gate_at}
-use Rattle.gi_aiger_binary.specs.Levels.{var_at, AreInOrder, IsByLevel, ranked_from, gates_at}
 use Rattle.gi_aiger_binary.specs.Renumbering.{further, place_among, number_in, variables_of}
 use Rattle.gi_aiger_binary.specs.Numbered.{evens_from}
+use Rattle.gi_aiger_binary.proofs.InOrder.{IsByLevel}
 
 -- what stands at a place
 pub place_at : (vs : List ℕ) (x k : ℕ) → place_among vs x ≡ suc k → (k < length vs) × (get_or vs k 0 ≡ x)
@@ -59,37 +60,20 @@ evens_at {X} f (x ∷ xs) v each =
     ap (λ (n : ℕ). n ∷ map f xs) (each 0 x (omega arith) ∙ (let e : 2 * (v + 0) ≡ 2 * v = omega arith in e))
     ∙ ap (λ (ns : List ℕ). 2 * v ∷ ns) (evens_at f xs (suc v) (λ k d lt. each (suc k) d (omega arith) ∙ (let e : 2 * (v + suc k) ≡ 2 * (suc v + k) = omega arith in e)))
 
--- ranks by level: the first parts rise
-lex_le : (x y : ℕ × ℕ) → is_lt (ordering_then (nat_cmp y.0 x.0) (nat_cmp y.1 x.1)) ≡ false → x.0 ≤ y.0
-lex_le x y h = elim (cases_lt y.0 x.0) [
-  | inl lt ↦ absurd (let t : true ≡ false = rw (lt-ltb y.0 x.0 lt) at h in cc)
-  | inr le ↦ le
-]
-
-pub levels_rise : (ranks : List (ℕ × ℕ)) → IsSorted (λ (x y : ℕ × ℕ). ordering_then (nat_cmp x.0 y.0) (nat_cmp x.1 y.1)) ranks → IsNonDecreasingBy (λ (r : ℕ × ℕ). r.0) ranks
-levels_rise ranks up = IsNonDecreasingBy-from_all_adjacent (λ (r : ℕ × ℕ). r.0) ranks (λ k d lt. lex_le (get_or ranks k d) (get_or ranks (k + 1) d) (up k d (omega arith) lt))
-
--- a rank tells its gate's level
-ranks_tell : (gates : List AndGate) (level : ℕ → ℕ) (gs : List AndGate) (i : ℕ) → ((k : ℕ) → k < length gs → var_at gates (i + k) ≡ var_at gs k) → All (λ (r : ℕ × ℕ). r.0 ≡ level (var_at gates r.1)) (ranked_from level i gs)
-ranks_tell gates level [] i same k d lt = absurd (omega arith)
-ranks_tell gates level (g ∷ gs) i same zero d lt = ap level (sym (same 0 (omega arith)) ∙ ap (var_at gates) (let e : i + 0 ≡ i = omega arith in e))
-ranks_tell gates level (g ∷ gs) i same (suc k) d lt = ranks_tell gates level gs (suc i) (λ j l. ap (var_at gates) (let e : suc i + j ≡ i + suc j = omega arith in e) ∙ same (suc j) (omega arith)) k d (omega arith)
-
-pub rank_tells : (gates : List AndGate) (level : ℕ → ℕ) (ranks : List (ℕ × ℕ)) → AreInOrder gates level ranks → All (λ (r : ℕ × ℕ). r.0 ≡ level (var_at gates r.1)) ranks
-rank_tells gates level ranks o = All-permutation (λ (r : ℕ × ℕ). r.0 ≡ level (var_at gates r.1)) (ranked_from level 0 gates) ranks o.all (ranks_tell gates level gates 0 (λ k lt. ap (var_at gates) (let e : 0 + k ≡ k = omega arith in e)))
-
--- all gates, in any order
-gates_again : (gates : List AndGate) (level : ℕ → ℕ) (gs : List AndGate) (i : ℕ) → ((k : ℕ) → k < length gs → gate_at gates (i + k) ≡ gate_at gs k) → gates_at gates (ranked_from level i gs) ≡ gs
-gates_again gates level [] i same = refl
-gates_again gates level (g ∷ gs) i same =
-    ap (λ (x : AndGate). x ∷ gates_at gates (ranked_from level (suc i) gs)) (ap (gate_at gates) (let e : i ≡ i + 0 = omega arith in e) ∙ same 0 (omega arith))
-    ∙ ap (λ (xs : List AndGate). g ∷ xs) (gates_again gates level gs (suc i) (λ k lt. ap (gate_at gates) (let e : suc i + k ≡ i + suc k = omega arith in e) ∙ same (suc k) (omega arith)))
+-- all gates, in their order and in another
+pub all_again : (gates : List AndGate) → map (gate_at gates) (range_with_len 0 (length gates)) ≡ gates
+all_again gates =
+    let m = length-map (range_with_len 0 (length gates)) (gate_at gates) in
+    let n = length-range_with_len 0 (length gates) in
+    ext_get_or (record { lhs = 0; rhs0 = 0; rhs1 = 0 }) (map (gate_at gates) (range_with_len 0 (length gates))) gates (m ∙ n) (λ k lt.
+    get_or-map (gate_at gates) (range_with_len 0 (length gates)) k 0 (record { lhs = 0; rhs0 = 0; rhs1 = 0 }) (omega (arith, lt, m))
+    ∙ ap (gate_at gates) (let p = get_or-range_with_len 0 (length gates) k 0 (omega (arith, lt, m, n)) in let e : get_or (range_with_len 0 (length gates)) k 0 ≡ k = omega (arith, p) in e))
 
 pub gates_permuted : (gates ordered : List AndGate) → IsByLevel gates ordered → IsPermutation gates ordered
 gates_permuted gates ordered o =
-    let p = IsPermutation-map (λ (r : ℕ × ℕ). gate_at gates r.1) (ranked_from o.level 0 gates) o.ranks o.order.all in
-    let q : IsPermutation gates (gates_at gates o.ranks) = subst (λ (gs : List AndGate). IsPermutation gs (gates_at gates o.ranks)) (gates_again gates o.level gates 0 (λ k lt. ap (gate_at gates) (let e : 0 + k ≡ k = omega arith in e))) p in
-    subst (IsPermutation gates) (sym o.are) q
+    subst (IsPermutation gates) (sym o.are)
+    (subst (λ (gs : List AndGate). IsPermutation gs (map (gate_at gates) o.places)) (all_again gates)
+    (IsPermutation-map (gate_at gates) (range_with_len 0 (length gates)) o.places o.order.all))
 
 pub flips : (x y : ℕ) → eqb x y ≡ eqb y x
 flips x y = elim (eqb_tells x y) [

@@ -30,6 +30,7 @@ use Rattle.gi_aiger_binary.proofs.Rowed.{line_first, section_done, all_outs, all
 use Rattle.gi_aiger_binary.proofs.Latched.{words_of, all_latches, takes_latches, takes_outs, takes_bads, takes_cons, takes_justice, takes_fair, takes_sizes}
 use Rattle.gi_aiger_binary.proofs.Gated.{gates_read}
 use Rattle.gi_aiger_binary.proofs.Named.{symbols_read}
+use Rattle.gi_aiger.specs.Limits.{most_items}
 
 shares_all : (lists : List (List ℕ)) → shares (map (λ (p : List ℕ). length p) lists) (flat_map (λ p. p) lists) ≡ lists
 unfolding shares
@@ -142,10 +143,10 @@ module _ (w : Aig) (n : IsNumbered w) (l : IsInLimits w) where
   abbrev read_whole : Taken
   read_whole = taken_of (evens (length w.inputs)) w.latches w.outs w.bads w.cons sizes (length all) all w.fair w.gates
 
-  places_le : (kind : ℕ) → places_of h kind ≤ 1048576
+  places_le : (kind : ℕ) → places_of h kind ≤ most_items
   places_le kind =
       let v = l.variables in
-      either_le (kind == 105) _ _ 1048576 (omega arith) (either_le (kind == 108) _ _ 1048576 (omega arith) (either_le (kind == 111) _ _ 1048576 l.outs (either_le (kind == 98) _ _ 1048576 l.bads (either_le (kind == 99) _ _ 1048576 l.cons (either_le (kind == 106) _ _ 1048576 l.justice (either_le (kind == 102) _ _ 1048576 l.fair (omega arith)))))))
+      either_le (kind == 105) _ _ most_items (omega arith) (either_le (kind == 108) _ _ most_items (omega arith) (either_le (kind == 111) _ _ most_items l.outs (either_le (kind == 98) _ _ most_items l.bads (either_le (kind == 99) _ _ most_items l.cons (either_le (kind == 106) _ _ most_items l.justice (either_le (kind == 102) _ _ most_items l.fair (omega arith)))))))
 
   behind_lines : read_sections h [] lines_end read (lines_of (flat_map gate_text w.gates ++ (flat_map symbol_line w.symbols ++ comment_text w.comment))) ≡ whole h read_whole w.symbols w.comment
   unfolding read_sections read_gates

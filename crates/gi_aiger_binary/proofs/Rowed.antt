@@ -10,6 +10,7 @@ use Rattle.gi_aiger.specs.declared.aig.Reset.{Reset}
 use Rattle.gi_aiger.specs.declared.aig.Reset.TheVariants.{Zero, One, Free}
 use Rattle.gi_aiger.specs.declared.fault.AigCode.{AigCode}
 use Rattle.gi_aiger.specs.declared.fault.AigCode.TheVariants.{Literal}
+use Rattle.gi_aiger.specs.declared.head.Form.TheVariants.{Binary}
 use Rattle.gi_aiger.specs.declared.head.Head.{Head}
 use Rattle.gi_aiger.specs.declared.row.Section.{Section}
 use Rattle.gi_aiger.specs.declared.row.Section.TheVariants as sections
@@ -19,13 +20,14 @@ use Rattle.gi_aiger.specs.declared.taken.Taken.{Taken}
 use Rattle.gi_aiger.specs.Fields.{numbers_of, with_own}
 use Rattle.gi_aiger.specs.Lines.{lines_of, is_plain}
 use Rattle.gi_aiger.specs.Rows.{literal_of, defining_of, reset_of, latch_of, row_with, size_of, row_read}
-use Rattle.gi_aiger.specs.Taking.{with_row, room, then_row, add_row, add_line}
+use Rattle.gi_aiger.specs.Taking.{with_row, room, then_row, add_row, add_line, left_out, own_latch}
 use Rattle.gi_aiger.specs.Sections.{left_in}
 use Rattle.gi_aiger.specs.Files.{Told, then_line, read_section, read_sections}
 use Rattle.gi_aiger.specs.Texts.{count_text, reset_text}
 use Rattle.gi_aiger.proofs.Lining.{plain_head, bare_whole}
 use Rattle.gi_aiger_binary.specs.Numbered.{AreWithin, head_of_aig}
 use Rattle.gi_aiger_binary.proofs.Counts.{AreSmall, counts, line_numbers, plain_decimal}
+use Rattle.gi_aiger.specs.Limits.{most_items}
 
 -- a line, and what stands behind it
 pub line_first : (x rest : List ℕ) → is_plain x ≡ true → lines_of (x ++ 10 ∷ rest) ≡ (x ++ 10 ∷ []) ∷ lines_of rest
@@ -64,7 +66,7 @@ section_done h s ss text row xs k t u rest e all is =
     ∙ ap (λ (v : Taken). read_sections h ss (k + length xs) v (lines_of rest)) is
 
 -- the sections of a value within the limits
-module _ (v : Aig) (limit : length v.inputs + length v.latches + length v.gates ≤ 1048576) where
+module _ (v : Aig) (limit : length v.inputs + length v.latches + length v.gates ≤ most_items) where
   abbrev pub most : ℕ
   most = length v.inputs + length v.latches + length v.gates
 
@@ -79,48 +81,32 @@ module _ (v : Aig) (limit : length v.inputs + length v.latches + length v.gates 
   numbers_one : (l : ℕ) → l < 2 ^ 64 → numbers_of (decimal l) ≡ Some (l ∷ [])
   numbers_one l small = ap numbers_of (sym (append-nil (decimal l))) ∙ line_numbers l [] (small, tt)
 
-  one_out : (t : Taken) (l : ℕ) → l ≤ 2 * most + 1 → add_line (head_of_aig v) t sections.Out (decimal l) ≡ Ok (with_row t (rows.Out l))
-  one_out t l le =
-      ap (λ (o : Option (List ℕ)). then_row (row_read most (room t) sections.Out (with_own None o)) (add_row (head_of_aig v) t)) (numbers_one l (omega (arith, le)))
-      ∙ ap (λ (r : Result ℕ AigCode). then_row (row_with rows.Out r) (add_row (head_of_aig v) t)) (literal_is l le)
-
-  one_bad : (t : Taken) (l : ℕ) → l ≤ 2 * most + 1 → add_line (head_of_aig v) t sections.Bad (decimal l) ≡ Ok (with_row t (rows.Bad l))
-  one_bad t l le =
-      ap (λ (o : Option (List ℕ)). then_row (row_read most (room t) sections.Bad (with_own None o)) (add_row (head_of_aig v) t)) (numbers_one l (omega (arith, le)))
-      ∙ ap (λ (r : Result ℕ AigCode). then_row (row_with rows.Bad r) (add_row (head_of_aig v) t)) (literal_is l le)
-
-  one_con : (t : Taken) (l : ℕ) → l ≤ 2 * most + 1 → add_line (head_of_aig v) t sections.Con (decimal l) ≡ Ok (with_row t (rows.Con l))
-  one_con t l le =
-      ap (λ (o : Option (List ℕ)). then_row (row_read most (room t) sections.Con (with_own None o)) (add_row (head_of_aig v) t)) (numbers_one l (omega (arith, le)))
-      ∙ ap (λ (r : Result ℕ AigCode). then_row (row_with rows.Con r) (add_row (head_of_aig v) t)) (literal_is l le)
-
-  one_justice : (t : Taken) (l : ℕ) → l ≤ 2 * most + 1 → add_line (head_of_aig v) t sections.Justice (decimal l) ≡ Ok (with_row t (rows.Justice l))
-  one_justice t l le =
-      ap (λ (o : Option (List ℕ)). then_row (row_read most (room t) sections.Justice (with_own None o)) (add_row (head_of_aig v) t)) (numbers_one l (omega (arith, le)))
-      ∙ ap (λ (r : Result ℕ AigCode). then_row (row_with rows.Justice r) (add_row (head_of_aig v) t)) (literal_is l le)
-
-  one_fair : (t : Taken) (l : ℕ) → l ≤ 2 * most + 1 → add_line (head_of_aig v) t sections.Fair (decimal l) ≡ Ok (with_row t (rows.Fair l))
-  one_fair t l le =
-      ap (λ (o : Option (List ℕ)). then_row (row_read most (room t) sections.Fair (with_own None o)) (add_row (head_of_aig v) t)) (numbers_one l (omega (arith, le)))
-      ∙ ap (λ (r : Result ℕ AigCode). then_row (row_with rows.Fair r) (add_row (head_of_aig v) t)) (literal_is l le)
+  -- a line with a literal, in a section of such lines
+  one_literal : (s : Section) (row : ℕ → Row) → ((t : Taken) (l : ℕ) → then_row (row_read most (room t) s (with_own (left_out Binary s (own_latch (head_of_aig v) t)) (Some (l ∷ [])))) (add_row (head_of_aig v) t) ≡ then_row (row_with row (literal_of most l)) (add_row (head_of_aig v) t))
+      → ((t : Taken) (l : ℕ) → add_row (head_of_aig v) t (row l) ≡ Ok (with_row t (row l))) → (t : Taken) (l : ℕ) → l ≤ 2 * most + 1 → add_line (head_of_aig v) t s (decimal l) ≡ Ok (with_row t (row l))
+  one_literal s row reads adds t l le =
+      ap (λ (o : Option (List ℕ)). then_row (row_read most (room t) s (with_own (left_out Binary s (own_latch (head_of_aig v) t)) o)) (add_row (head_of_aig v) t)) (numbers_one l (omega (arith, le)))
+      ∙ reads t l
+      ∙ ap (λ (r : Result ℕ AigCode). then_row (row_with row r) (add_row (head_of_aig v) t)) (literal_is l le)
+      ∙ adds t l
 
   pub all_outs : (t : Taken) (ls : List ℕ) → AreWithin most ls → AllAdd (head_of_aig v) sections.Out decimal rows.Out t ls
-  all_outs = all_literals sections.Out rows.Out one_out
+  all_outs = all_literals sections.Out rows.Out (one_literal sections.Out rows.Out (λ t l. refl) (λ t l. refl))
 
   pub all_bads : (t : Taken) (ls : List ℕ) → AreWithin most ls → AllAdd (head_of_aig v) sections.Bad decimal rows.Bad t ls
-  all_bads = all_literals sections.Bad rows.Bad one_bad
+  all_bads = all_literals sections.Bad rows.Bad (one_literal sections.Bad rows.Bad (λ t l. refl) (λ t l. refl))
 
   pub all_cons : (t : Taken) (ls : List ℕ) → AreWithin most ls → AllAdd (head_of_aig v) sections.Con decimal rows.Con t ls
-  all_cons = all_literals sections.Con rows.Con one_con
+  all_cons = all_literals sections.Con rows.Con (one_literal sections.Con rows.Con (λ t l. refl) (λ t l. refl))
 
   pub all_justice : (t : Taken) (ls : List ℕ) → AreWithin most ls → AllAdd (head_of_aig v) sections.Justice decimal rows.Justice t ls
-  all_justice = all_literals sections.Justice rows.Justice one_justice
+  all_justice = all_literals sections.Justice rows.Justice (one_literal sections.Justice rows.Justice (λ t l. refl) (λ t l. refl))
 
   pub all_fair : (t : Taken) (ls : List ℕ) → AreWithin most ls → AllAdd (head_of_aig v) sections.Fair decimal rows.Fair t ls
-  all_fair = all_literals sections.Fair rows.Fair one_fair
+  all_fair = all_literals sections.Fair rows.Fair (one_literal sections.Fair rows.Fair (λ t l. refl) (λ t l. refl))
 
   -- the sizes of the justice properties
-  one_size : (t : Taken) (n : ℕ) → t.total + n ≤ 1048576 → add_line (head_of_aig v) t sections.Size (decimal n) ≡ Ok (with_row t (rows.Size n))
+  one_size : (t : Taken) (n : ℕ) → t.total + n ≤ most_items → add_line (head_of_aig v) t sections.Size (decimal n) ≡ Ok (with_row t (rows.Size n))
   one_size t n le =
       ap (λ (o : Option (List ℕ)). then_row (row_read most (room t) sections.Size (with_own None o)) (add_row (head_of_aig v) t)) (numbers_one n (omega (arith, le)))
       ∙ ap (λ (r : Result ℕ AigCode). then_row (row_with rows.Size r) (add_row (head_of_aig v) t)) (size_is (room t) n (omega (arith, le)))
@@ -128,7 +114,7 @@ module _ (v : Aig) (limit : length v.inputs + length v.latches + length v.gates 
       size_is : (most n : ℕ) → n ≤ most → size_of most n ≡ Ok n
       size_is most n le = rw (le-leb n most le) refl
 
-  pub all_sizes : (t : Taken) (lists : List (List ℕ)) → t.total + length (flat_map (λ p. p) lists) ≤ 1048576 → AllAdd (head_of_aig v) sections.Size (λ p. decimal (length p)) (λ p. rows.Size (length p)) t lists
+  pub all_sizes : (t : Taken) (lists : List (List ℕ)) → t.total + length (flat_map (λ p. p) lists) ≤ most_items → AllAdd (head_of_aig v) sections.Size (λ p. decimal (length p)) (λ p. rows.Size (length p)) t lists
   all_sizes t [] le = tt
   all_sizes t (p ∷ ps) le =
       let n = length-append p (flat_map (λ p. p) ps) in

@@ -8,13 +8,17 @@ use Rattle.std.proofs.lemmas.List.Sorted.{All-permutation, IsPermutation-sym}
 use Rattle.gi_aiger.specs.declared.aig.Aig.{Aig}
 use Rattle.gi_aiger.specs.declared.aig.AndGate.{AndGate}
 use Rattle.gi_aiger.specs.Levels.{gate_at}
-use Rattle.gi_aiger_binary.specs.Levels.{var_at, AreLevels, IsByLevel}
-use Rattle.gi_aiger_binary.specs.Renumbering.{place_among, number_in, variables_of, literal_by, gate_by, renumbered, IsRenumbered}
-use Rattle.gi_aiger_binary.specs.Sound.{IsSound}
+use Rattle.gi_aiger.specs.Places.{AreLevels, variable_level}
+use Rattle.gi_aiger.proofs.Resolving.{gates_have_levels}
+use Rattle.gi_aiger_binary.specs.Renumbering.{place_among, number_in, variables_of, literal_by, gate_by, renumbered, in_order, numbered_anew}
+use Rattle.gi_aiger_binary.specs.Sound.{IsSound, IsWritable}
+use Rattle.gi_aiger_binary.proofs.InOrder.{var_at, IsByLevel, ordered_is}
 use Rattle.gi_aiger_binary.proofs.Renumbered.{length-variables}
-use Rattle.gi_aiger_binary.proofs.Placing.{place_at, levels_rise, gates_permuted}
-use Rattle.gi_aiger_binary.proofs.Numberings.{gate_number, gate_place, length-ranks, level_is, level_over, number_below, is_numbered}
+use Rattle.gi_aiger_binary.proofs.Placing.{place_at, gates_permuted}
+use Rattle.gi_aiger_binary.proofs.Numberings.{gate_number, gate_place, level_at, level_over, levels_rise, number_below, is_numbered}
 use Rattle.gi_aiger_binary.proofs.InPlace.{in_place}
+use Rattle.gi_aiger_binary.proofs.Deserved.{good_writable}
+use Rattle.gi_aiger_binary.proofs.Reread.{numbered_good}
 use Rattle.gi_aiger_binary.proofs.Fixed.{fixed}
 
 half_of : (n l : ℕ) → (2 * n + l % 2) / 2 ≡ n
@@ -43,8 +47,8 @@ module _ (v : Aig) (ordered : List AndGate) (o : IsByLevel v.gates ordered) (s :
   abbrev gs : List AndGate
   gs = map (gate_by (number_in vs)) ordered
 
-  abbrev rank : ℕ → ℕ × ℕ
-  rank k = get_or o.ranks k (0, 0)
+  abbrev lev : ℕ → ℕ
+  lev k = level_at v ordered o s k
 
   length-gs : length gs ≡ length ordered
   length-gs = length-map ordered (gate_by (number_in vs))
@@ -92,17 +96,17 @@ module _ (v : Aig) (ordered : List AndGate) (o : IsByLevel v.gates ordered) (s :
     new_zero : (x : ℕ) → x ≤ front → level x ≡ 0
     new_zero x le = a.other x (λ k lt e. (let n = var_is k (omega (arith, lt, length-gs)) in omega (arith, n, e)))
 
-    same_level : (k : ℕ) → k < length ordered → ((j : ℕ) → j < k → level (var_at gs j) ≡ (rank j).0) → (x : ℕ) → o.level x < (rank k).0 → level (number_in vs x) ≡ o.level x
+    same_level : (k : ℕ) → k < length ordered → ((j : ℕ) → j < k → level (var_at gs j) ≡ lev j) → (x : ℕ) → o.level x < lev k → level (number_in vs x) ≡ o.level x
     same_level k lt before x low = elim (cases_lt front (number_in vs x)) [
       | inr le ↦ new_zero (number_in vs x) le ∙ sym (old_zero x le)
       | inl far ↦
           (let f = found x far in
           let below = number_below v ordered o s k x lt low in
           let is = f.number in
-          ap level (f.number ∙ sym (var_is f.place f.inside)) ∙ before f.place (omega (arith, below, is)) ∙ sym (level_is v ordered o s f.place f.inside) ∙ ap o.level f.here)
+          ap level (f.number ∙ sym (var_is f.place f.inside)) ∙ before f.place (omega (arith, below, is)) ∙ ap o.level f.here)
     ]
 
-    gate_level : (k : ℕ) → k < length ordered → ((j : ℕ) → j < k → level (var_at gs j) ≡ (rank j).0) → level (var_at gs k) ≡ (rank k).0
+    gate_level : (k : ℕ) → k < length ordered → ((j : ℕ) → j < k → level (var_at gs j) ≡ lev j) → level (var_at gs k) ≡ lev k
     gate_level k lt before =
         let over = level_over v ordered o s k lt in
         let g = gate_at ordered k in
@@ -115,7 +119,7 @@ module _ (v : Aig) (ordered : List AndGate) (o : IsByLevel v.gates ordered) (s :
         ∙ ap (λ (x : ℕ). suc (max (o.level ((gate_at ordered k).rhs0 / 2)) x)) (same_level k lt before ((gate_at ordered k).rhs1 / 2) (omega (arith, over)))
         ∙ sym over
 
-    gate_levels : (n k : ℕ) → k < n → k < length ordered → level (var_at gs k) ≡ (rank k).0
+    gate_levels : (n k : ℕ) → k < n → k < length ordered → level (var_at gs k) ≡ lev k
     gate_levels zero k kn lt = absurd (omega arith)
     gate_levels (suc n) k kn lt = gate_level k lt (λ j jk. gate_levels n j (omega arith) (omega arith))
 
@@ -124,16 +128,15 @@ module _ (v : Aig) (ordered : List AndGate) (o : IsByLevel v.gates ordered) (s :
         let jl : j < length ordered = omega (arith, lt, length-gs) in
         let a = gate_levels (suc i) i (omega arith) (omega arith) in
         let b = gate_levels (suc j) j (omega arith) jl in
-        let n = length-ranks v ordered o s in
-        let up = levels_rise o.ranks o.order.sorted i j (0, 0) le (omega (arith, n)) in
+        let up = levels_rise v ordered o s i j le jl in
         omega (arith, a, b, up)
 
-  pub stays : (u : Aig) → IsRenumbered (renumbered v ordered) u → u ≡ renumbered v ordered
-  stays u r =
-      r.are
-      ∙ ap (renumbered (renumbered v ordered)) (in_place gs r.gates r.order (levels_in_order r.order.level r.order.levels))
+  pub stays : IsWritable (renumbered v ordered) → numbered_anew (renumbered v ordered) ≡ renumbered v ordered
+  stays w =
+      let are = gates_have_levels gs w.apart w.levels in
+      ap (renumbered (renumbered v ordered)) (in_place gs w.apart w.levels (levels_in_order (variable_level gs) are.0))
       ∙ fixed (renumbered v ordered) (is_numbered v ordered o s)
 
-pub renumbered_stays : (v w u : Aig) → IsSound v → IsRenumbered v w → IsRenumbered w u → u ≡ w
-renumbered_stays v w u sound r q =
-    stays v r.gates r.order sound u (subst (λ (x : Aig). IsRenumbered x u) r.are q) ∙ sym r.are
+pub numbers_stay : (v : Aig) → IsWritable v → IsSound v → numbered_anew (numbered_anew v) ≡ numbered_anew v
+numbers_stay v w sound =
+    stays v (in_order v.gates) (ordered_is v.gates w.apart w.levels) sound (good_writable (numbered_anew v) (numbered_good v w sound).0).0

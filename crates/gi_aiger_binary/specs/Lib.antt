@@ -1,6 +1,4 @@
 pub mod Differences
-pub mod Levels
-pub mod Order
 pub mod Renumbering
 pub mod Numbers
 pub mod Texts

@@ -10,6 +10,7 @@ use Rattle.gi_aiger.specs.declared.head.Head.{Head}
 use Rattle.gi_aiger.specs.Lines.{is_plain}
 use Rattle.gi_aiger.specs.Symbols.{places_of}
 use Rattle.gi_aiger.specs.Named.{is_named}
+use Rattle.gi_aiger.specs.Limits.{most_items}
 
 -- the literals of so many variables from one on
 abbrev pub evens_from : ℕ → ℕ → List ℕ
@@ -66,11 +67,11 @@ AreSymbols h before (s ∷ ss) = IsSymbolOf h s × (is_named before s.kind s.pla
 
 -- the counts are within the limits, and the symbols are in order
 pub record IsInLimits (v : Aig) : Type 0 where
-  pub variables : length v.inputs + length v.latches + length v.gates ≤ 1048576
-  pub outs : length v.outs ≤ 1048576
-  pub bads : length v.bads ≤ 1048576
-  pub cons : length v.cons ≤ 1048576
-  pub justice : length v.justice ≤ 1048576
-  pub sizes : length (flat_map (λ p. p) v.justice) ≤ 1048576
-  pub fair : length v.fair ≤ 1048576
+  pub variables : length v.inputs + length v.latches + length v.gates ≤ most_items
+  pub outs : length v.outs ≤ most_items
+  pub bads : length v.bads ≤ most_items
+  pub cons : length v.cons ≤ most_items
+  pub justice : length v.justice ≤ most_items
+  pub sizes : length (flat_map (λ p. p) v.justice) ≤ most_items
+  pub fair : length v.fair ≤ most_items
   pub symbols : AreSymbols (head_of_aig v) [] v.symbols

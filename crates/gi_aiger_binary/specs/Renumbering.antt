@@ -3,7 +3,8 @@ use Rattle.std.specs.Prelude.{◌≡◌, ℕ, zero, suc, ◌+◌, ◌*◌, ◌/�
 use Rattle.gi_aiger.specs.declared.aig.Aig.{Aig}
 use Rattle.gi_aiger.specs.declared.aig.AndGate.{AndGate}
 use Rattle.gi_aiger.specs.declared.aig.Latch.{Latch}
-use Rattle.gi_aiger_binary.specs.Levels.{IsByLevel}
+use Rattle.gi_aiger.specs.Levels.{gate_at}
+use Rattle.gi_aiger.specs.Places.{places_by_level}
 
 -- the variables in their new order: those of the inputs, of the latches, and of these gates
 abbrev pub variables_of : Aig → List AndGate → List ℕ
@@ -58,8 +59,10 @@ numbered_by number most v gates = record {
 abbrev pub renumbered : Aig → List AndGate → Aig
 renumbered v gates = numbered_by (number_in (variables_of v gates)) (length (variables_of v gates)) v gates
 
+-- the gates by level, and within a level in their order
+abbrev pub in_order : List AndGate → List AndGate
+in_order gates = map (gate_at gates) (places_by_level gates)
+
 -- the same value, numbered anew: inputs in order, latches in order, and gates by level and within a level in their order
-pub record IsRenumbered (v w : Aig) : Type 0 where
-  pub gates : List AndGate
-  pub order : IsByLevel v.gates gates
-  pub are : w ≡ renumbered v gates
+abbrev pub numbered_anew : Aig → Aig
+numbered_anew v = renumbered v (in_order v.gates)

@@ -4,12 +4,12 @@ use Rattle.std.specs.List.{flat_map}
 use Rattle.gi_aiger.specs.declared.aig.Aig.{Aig}
 use Rattle.gi_aiger.specs.declared.aig.AndGate.{AndGate}
 use Rattle.gi_aiger.specs.declared.aig.Latch.{Latch}
-use Rattle.gi_aiger.specs.Texts.{counts_text, further_text, number_line, number_lines, reset_text, symbol_line, comment_text}
+use Rattle.gi_aiger.specs.Texts.{head_by, number_line, number_lines, reset_text, symbol_line, comment_text}
 use Rattle.gi_aiger_binary.specs.Differences.{groups_of}
 
 -- the header: `aig`, and the counts up to the last further one that isn't 0
 abbrev pub head_text : Aig → List ℕ
-head_text v = (((97 ∷ 105 ∷ 103 ∷ []) ++ counts_text v) ++ further_text (length v.bads) (length v.cons) (length v.justice) (length v.fair)) ++ 10 ∷ []
+head_text v = head_by (97 ∷ 105 ∷ 103 ∷ []) v
 
 -- a latch without its own literal, and with its reset where that isn't 0
 abbrev pub latch_line : Latch → List ℕ

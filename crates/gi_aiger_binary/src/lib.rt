@@ -4,7 +4,6 @@
 mod differences;
 mod laws;
 mod numbers;
-mod order;
 mod renumbering;
 mod writing;
 
@@ -15,5 +14,7 @@ pub use laws::{
 pub use renumbering::renumber;
 pub use writing::write_binary;
 
+#[cfg(test)]
+mod reading_tests;
 #[cfg(test)]
 mod tests;

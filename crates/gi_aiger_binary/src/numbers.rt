@@ -1,11 +1,12 @@
 // The new numbers of variables.
-ghost use Rattle.std.specs.Prelude.{◌≡◌, ◌≢◌, ◌+◌, ◌/◌, ◌<◌, ◌^◌, ◌++◌, ℕ, length, map, slice_index, IfOk, OnOk};
+ghost use Rattle.std.specs.Prelude.{◌≡◌, ◌/◌, ◌<◌, ◌^◌, ◌++◌, ℕ, length, map, IfOk, OnOk};
 ghost use Rattle.gi_aiger.specs.declared.aig.Latch.{Latch};
 ghost use Rattle.gi_aiger.specs.declared.aig.AndGate.{AndGate};
 ghost use Rattle.gi_aiger_binary.specs.Renumbering.{number_in, variables_of};
 ghost use Rattle.gi_aiger_binary.specs.Numbers.{noted};
+ghost use Rattle.gi_aiger.specs.Tables.{value_of};
 
-use gi_aiger::{Aig, AndGate, Latch};
+use gi_aiger::{Aig, AndGate, Latch, Table};
 use gi_lit::Edge;
 use std::alloc::{AllocError, Global};
 
@@ -51,50 +52,25 @@ pub(crate) fn variables_of(
     Ok(variables)
 }
 
-/// The number of a variable.
-pub(crate) fn number_at(numbers: &[u32], variable: u32) -> u32
-    ensures { result ≡ slice_index numbers.now variable }
-{
-    let place = variable as usize;
-    if place < numbers.len() {
-        numbers[place]
-    } else {
-        0
-    }
-}
-
-// A variable has another number.
-fn put(numbers: &mut Vec<u32>, variable: u32, number: u32) -> Result<(), AllocError>
-    ensures same { OnOk result (slice_index numbers.new.items variable ≡ number) }
-    ensures other { OnOk result ((x : ℕ) → x ≢ variable → slice_index numbers.new.items x ≡ slice_index numbers.old.items x) }
-{
-    let place = variable as usize;
-    if place >= numbers.len() {
-        numbers.resize(place + 1, 0)?;
-    }
-    numbers[place] = number;
-    Ok(())
-}
-
 // A variable that has no number has this one; variable 0 has none.
-fn note(numbers: &mut Vec<u32>, variable: u32, number: u32) -> Result<(), AllocError>
-    ensures { OnOk result ((x : ℕ) → slice_index numbers.new.items x ≡ noted (slice_index numbers.old.items) variable number x) }
+fn note(numbers: &mut Table<u32>, variable: u32, number: u32) -> Result<(), AllocError>
+    ensures { OnOk result ((x : ℕ) → value_of numbers.new x ≡ noted (value_of numbers.old) variable number x) }
 {
     if variable == 0 {
         return Ok(());
     }
-    if number_at(numbers, variable) != 0 {
+    if numbers.get(variable) != 0 {
         return Ok(());
     }
-    put(numbers, variable, number)
+    numbers.put(variable, number)
 }
 
 /// The numbers of variables by their order, from 1; 0 where a variable has none.
-pub(crate) fn numbers_of(alloc: Global, variables: &[u32]) -> Result<Vec<u32>, AllocError>
+pub(crate) fn numbers_of(alloc: Global, variables: &[u32]) -> Result<Table<u32>, AllocError>
     requires { length variables.now < 2 ^ 31 }
-    ensures { IfOk result (λ numbers. (x : ℕ) → slice_index numbers.items x ≡ number_in variables.now x) }
+    ensures { IfOk result (λ numbers. (x : ℕ) → value_of numbers x ≡ number_in variables.now x) }
 {
-    let mut numbers = Vec::new(alloc);
+    let mut numbers = Table::new(alloc, 0);
     for (place, variable) in variables.iter().enumerate() {
         note(&mut numbers, *variable, place as u32 + 1)?;
     }

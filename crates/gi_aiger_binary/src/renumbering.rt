@@ -1,26 +1,29 @@
 // Values with their variables numbered anew.
-ghost use Rattle.std.specs.Prelude.{◌≡◌, ◌+◌, ◌/◌, ◌<◌, ◌≤◌, ◌^◌, ℕ, length, map, slice_index, IfOk};
-ghost use Rattle.gi_aiger_binary.specs.Renumbering.{gate_by, latch_by, literal_by, numbered_by, IsRenumbered};
+ghost use Rattle.std.specs.Prelude.{◌≡◌, ◌+◌, ◌/◌, ◌<◌, ◌≤◌, ◌^◌, ℕ, length, map, IfOk};
+ghost use Rattle.gi_aiger.specs.Levels.{HasLevels, IsDistinct};
+ghost use Rattle.gi_aiger.specs.Tables.{value_of};
+ghost use Rattle.gi_aiger_binary.specs.Renumbering.{gate_by, in_order, latch_by, literal_by, numbered_anew, numbered_by};
 ghost use Rattle.gi_aiger_binary.specs.Sound.{IsWritable};
 
-use crate::numbers::{number_at, numbers_of, variables_of};
-use crate::order::by_level;
-use gi_aiger::{Aig, AndGate, EdgeLists, Edges, Gates, Latch, Latches, Symbol, Symbols};
+use crate::numbers::{numbers_of, variables_of};
+use gi_aiger::{
+    Aig, AndGate, EdgeLists, Edges, Gates, Latch, Latches, Symbol, Symbols, Table, acyclic_places,
+};
 use gi_lit::Edge;
 use gi_text::Bytes;
 use std::alloc::{AllocError, Global};
 
-fn literal(numbers: &[u32], edge: Edge) -> Edge
-    requires { (x : ℕ) → slice_index numbers.now x < 2 ^ 31 }
-    ensures { result ≡ literal_by (slice_index numbers.now) edge }
+fn literal(numbers: &Table<u32>, edge: Edge) -> Edge
+    requires { (x : ℕ) → value_of numbers.now x < 2 ^ 31 }
+    ensures { result ≡ literal_by (value_of numbers.now) edge }
 {
-    let number = number_at(numbers, edge.node());
+    let number = numbers.get(edge.node());
     Edge::new(2 * number + edge.code() % 2)
 }
 
-fn latch(numbers: &[u32], latch: Latch) -> Latch
-    requires { (x : ℕ) → slice_index numbers.now x < 2 ^ 31 }
-    ensures { result ≡ latch_by (slice_index numbers.now) latch }
+fn latch(numbers: &Table<u32>, latch: Latch) -> Latch
+    requires { (x : ℕ) → value_of numbers.now x < 2 ^ 31 }
+    ensures { result ≡ latch_by (value_of numbers.now) latch }
 {
     Latch {
         lit: literal(numbers, latch.lit),
@@ -29,9 +32,9 @@ fn latch(numbers: &[u32], latch: Latch) -> Latch
     }
 }
 
-fn gate(numbers: &[u32], gate: AndGate) -> AndGate
-    requires { (x : ℕ) → slice_index numbers.now x < 2 ^ 31 }
-    ensures { result ≡ gate_by (slice_index numbers.now) gate }
+fn gate(numbers: &Table<u32>, gate: AndGate) -> AndGate
+    requires { (x : ℕ) → value_of numbers.now x < 2 ^ 31 }
+    ensures { result ≡ gate_by (value_of numbers.now) gate }
 {
     let left = literal(numbers, gate.rhs0).code();
     let right = literal(numbers, gate.rhs1).code();
@@ -43,9 +46,9 @@ fn gate(numbers: &[u32], gate: AndGate) -> AndGate
     }
 }
 
-fn edges(alloc: Global, numbers: &[u32], edges: &[Edge]) -> Result<Edges, AllocError>
-    requires { (x : ℕ) → slice_index numbers.now x < 2 ^ 31 }
-    ensures { IfOk result (λ out. out ≡ map (literal_by (slice_index numbers.now)) edges.now) }
+fn edges(alloc: Global, numbers: &Table<u32>, edges: &[Edge]) -> Result<Edges, AllocError>
+    requires { (x : ℕ) → value_of numbers.now x < 2 ^ 31 }
+    ensures { IfOk result (λ out. out ≡ map (literal_by (value_of numbers.now)) edges.now) }
 {
     let mut out = Edges::new(alloc);
     for edge in edges {
@@ -54,9 +57,9 @@ fn edges(alloc: Global, numbers: &[u32], edges: &[Edge]) -> Result<Edges, AllocE
     Ok(out)
 }
 
-fn latches(alloc: Global, numbers: &[u32], latches: &[Latch]) -> Result<Latches, AllocError>
-    requires { (x : ℕ) → slice_index numbers.now x < 2 ^ 31 }
-    ensures { IfOk result (λ out. out ≡ map (latch_by (slice_index numbers.now)) latches.now) }
+fn latches(alloc: Global, numbers: &Table<u32>, latches: &[Latch]) -> Result<Latches, AllocError>
+    requires { (x : ℕ) → value_of numbers.now x < 2 ^ 31 }
+    ensures { IfOk result (λ out. out ≡ map (latch_by (value_of numbers.now)) latches.now) }
 {
     let mut out = Latches::new(alloc);
     for item in latches {
@@ -65,9 +68,9 @@ fn latches(alloc: Global, numbers: &[u32], latches: &[Latch]) -> Result<Latches,
     Ok(out)
 }
 
-fn gates(alloc: Global, numbers: &[u32], gates: &[AndGate]) -> Result<Gates, AllocError>
-    requires { (x : ℕ) → slice_index numbers.now x < 2 ^ 31 }
-    ensures { IfOk result (λ out. out ≡ map (gate_by (slice_index numbers.now)) gates.now) }
+fn gates(alloc: Global, numbers: &Table<u32>, gates: &[AndGate]) -> Result<Gates, AllocError>
+    requires { (x : ℕ) → value_of numbers.now x < 2 ^ 31 }
+    ensures { IfOk result (λ out. out ≡ map (gate_by (value_of numbers.now)) gates.now) }
 {
     let mut out = Gates::new(alloc);
     for item in gates {
@@ -76,9 +79,9 @@ fn gates(alloc: Global, numbers: &[u32], gates: &[AndGate]) -> Result<Gates, All
     Ok(out)
 }
 
-fn lists(alloc: Global, numbers: &[u32], lists: &[Edges]) -> Result<EdgeLists, AllocError>
-    requires { (x : ℕ) → slice_index numbers.now x < 2 ^ 31 }
-    ensures { IfOk result (λ out. out ≡ map (map (literal_by (slice_index numbers.now))) lists.now) }
+fn lists(alloc: Global, numbers: &Table<u32>, lists: &[Edges]) -> Result<EdgeLists, AllocError>
+    requires { (x : ℕ) → value_of numbers.now x < 2 ^ 31 }
+    ensures { IfOk result (λ out. out ≡ map (map (literal_by (value_of numbers.now))) lists.now) }
 {
     let mut out = EdgeLists::new(alloc);
     for list in lists {
@@ -116,16 +119,30 @@ fn comment_again(alloc: Global, comment: &Option<Bytes>) -> Result<Option<Bytes>
     }
 }
 
+// The gates by level, and within a level in their order.
+fn in_order(alloc: Global, gates: &[AndGate]) -> Result<Vec<AndGate>, AllocError>
+    requires apart { IsDistinct gates.now }
+    requires acyclic { HasLevels gates.now }
+    ensures { IfOk result (λ ordered. ordered.items ≡ in_order gates.now) }
+{
+    let places = acyclic_places(alloc, gates)?;
+    let mut ordered = Vec::new(alloc);
+    for place in &places {
+        ordered.push(gates[*place])?;
+    }
+    Ok(ordered)
+}
+
 // The value with these numbers for its variables, so many of them, and its gates in this order.
 fn numbered(
     alloc: Global,
-    numbers: &[u32],
+    numbers: &Table<u32>,
     max: u32,
     aig: &Aig,
     ordered: &[AndGate],
 ) -> Result<Aig, AllocError>
-    requires { (x : ℕ) → slice_index numbers.now x < 2 ^ 31 }
-    ensures { IfOk result (λ w. w ≡ numbered_by (slice_index numbers.now) max aig.now ordered.now) }
+    requires { (x : ℕ) → value_of numbers.now x < 2 ^ 31 }
+    ensures { IfOk result (λ w. w ≡ numbered_by (value_of numbers.now) max aig.now ordered.now) }
 {
     let inputs = edges(alloc, numbers, aig.inputs.as_slice())?;
     let latches = latches(alloc, numbers, aig.latches.as_slice())?;
@@ -156,13 +173,12 @@ fn numbered(
 /// level in their order. A gate's level is one more than the greater level of its operands; what no gate defines has level 0.
 /// The greatest variable is the last one, a gate's greater operand comes first, and a variable that nothing defines becomes
 /// constant false. There must be no cycle of gates, no variable that two gates define, and fewer than 2^31 inputs, latches and
-/// gates together; each value that was read is so (`good_is_writable`). Room is taken for what the lists hold and up to the greatest
-/// variable that they define, whatever `max` is.
+/// gates together; each value that was read is so (`good_is_writable`). Room is taken for what the lists hold, whatever `max` is.
 pub fn renumber(alloc: Global, aig: &Aig) -> Result<Aig, AllocError>
     requires { IsWritable aig.now }
-    ensures { IfOk result (IsRenumbered aig.now) }
+    ensures { IfOk result (λ w. w ≡ numbered_anew aig.now) }
 {
-    let ordered = by_level(alloc, aig.gates.as_slice())?;
+    let ordered = in_order(alloc, aig.gates.as_slice())?;
     let variables = variables_of(alloc, aig, &ordered)?;
     let numbers = numbers_of(alloc, &variables)?;
     numbered(alloc, &numbers, variables.len() as u32, aig, &ordered)

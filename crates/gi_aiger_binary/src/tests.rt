@@ -85,35 +85,51 @@ fn numbered_ascii(alloc: Global, text: &[u8]) -> Result<Option<Bytes>, AllocErro
     }
 }
 
+fn are_bytes(found: Option<Bytes>, want: &[u8]) -> bool {
+    match found {
+        None => false,
+        Some(bytes) => bytes.as_slice() == want,
+    }
+}
+
+// Whether a file is written so, whether that is written so again, and so of the value numbered anew.
+fn is_row(alloc: Global, text: &[u8], binary: &[u8], ascii: &[u8]) -> Result<bool, AllocError> {
+    let written = are_bytes(binary_of(alloc, text)?, binary);
+    let again = are_bytes(binary_of(alloc, binary)?, binary);
+    let numbered = are_bytes(numbered_binary(alloc, text)?, binary);
+    let as_text = are_bytes(numbered_ascii(alloc, text)?, ascii);
+    Ok(written && again && numbered && as_text)
+}
+
 #[test]
 fn writes_and_reads_the_rows(rt: HostRuntime) -> Result<(), Fail> {
-    let alloc = rt.alloc();
     for (text, binary, ascii) in ROWS {
-        let written = binary_of(alloc, text)?.ok_or("no value")?;
-        assert_eq!(rt; written.as_slice(), binary);
-        let again = binary_of(alloc, written.as_slice())?.ok_or("no value")?;
-        assert_eq!(rt; again.as_slice(), binary);
-        let numbered = numbered_binary(alloc, text)?.ok_or("no value")?;
-        assert_eq!(rt; numbered.as_slice(), binary);
-        let numbered = numbered_ascii(alloc, text)?.ok_or("no value")?;
-        assert_eq!(rt; numbered.as_slice(), ascii);
+        assert!(rt; is_row(rt.alloc(), text, binary, ascii)?);
     }
     Ok(())
 }
 
+const DIFFERENCES: [(u32, &[u8]); 5] = [
+    (0, b"\x00"),
+    (2, b"\x02"),
+    (127, b"\x7f"),
+    (128, b"\x80\x01"),
+    (300, b"\xac\x02"),
+];
+
+fn is_spelled(alloc: Global, difference: u32, groups: &[u8]) -> Result<bool, AllocError> {
+    let mut out = Bytes::new(alloc);
+    put_difference(&mut out, difference)?;
+    Ok(out.as_slice() == groups)
+}
+
 #[test]
 fn differences_in_their_shortest_spelling(rt: HostRuntime) -> Result<(), Fail> {
-    let rows: [(u32, &[u8]); 5] = [
-        (0, b"\x00"),
-        (2, b"\x02"),
-        (127, b"\x7f"),
-        (128, b"\x80\x01"),
-        (300, b"\xac\x02"),
-    ];
-    for (difference, groups) in rows {
-        let mut out = Bytes::new(rt.alloc());
-        put_difference(&mut out, difference)?;
-        assert_eq!(rt; out.as_slice(), groups, "of {difference}");
+    for (difference, groups) in DIFFERENCES {
+        assert!(rt;
+            is_spelled(rt.alloc(), difference, groups)?,
+            "of {difference}"
+        );
     }
     Ok(())
 }

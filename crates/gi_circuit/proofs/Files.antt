@@ -15,13 +15,16 @@ use Rattle.gi_aiger.specs.Good.{IsGood}
 use Rattle.gi_circuit.specs.Values.{value_in}
 use Rattle.gi_circuit.specs.Nodes.{node_values}
 use Rattle.gi_circuit.specs.Frames.{edge_of}
-use Rattle.gi_circuit.specs.Import.{gate_at, var_at, AreLevels, IsByLevel, Imported, imported_none, with_input_of, with_latch_of, with_gate_of, system_of}
+use Rattle.gi_aiger.specs.Levels.{gate_at}
+use Rattle.gi_aiger.specs.Places.{AreLevels, AreByLevel, variable_level, places_by_level}
+use Rattle.gi_aiger.proofs.Resolving.{gates_have_levels}
+use Rattle.gi_circuit.specs.Import.{var_at, Imported, imported_none, with_input_of, with_latch_of, with_gate_of, system_of, circuit_of}
 use Rattle.gi_circuit.specs.Files.{latch_at, AreValues, MeansFile}
 use Rattle.gi_circuit.proofs.Meaning.{value_in-zero, value_in-opposite}
 use Rattle.gi_circuit.proofs.Importing.{input_latches, latch_latches, gate_latches}
 use Rattle.gi_circuit.proofs.Holding.{holds, Fits, Defines, input_defines, latch_defines, gate_defines, fits_all, stays, stays_from, defined_at}
 use Rattle.gi_circuit.proofs.Ranking.{inside, later_apart, lower_apart, left_lower, right_lower, all_gates}
-use Rattle.gi_circuit.proofs.Goodness.{inputs_defining, latches_defining, gates_defining, inputs_apart, latches_apart, gates_apart, input_no_latch, input_no_gate, latch_no_gate, gates_within}
+use Rattle.gi_circuit.proofs.Goodness.{inputs_defining, latches_defining, gates_defining, inputs_apart, latches_apart, gates_apart, input_no_latch, input_no_gate, latch_no_gate, gates_within, gates_acyclic}
 
 -- the edge of the other literal is the negation
 opposite_even : (l : ℕ) → l % 2 ≡ 0 → opposite l ≡ l + 1
@@ -63,15 +66,15 @@ latch_resets [] m = sym (append-nil m.system.resets)
 latch_resets (l ∷ ls) m = latch_resets ls (with_latch_of m l) ∙ append_assoc m.system.resets (l.reset ∷ []) (map (λ (l : Latch). l.reset) ls)
 
 module _ (gates : List AndGate) where
-  gate_inputs : (rs : List (ℕ × ℕ)) (m : Imported) → (fold (λ m (r : ℕ × ℕ). with_gate_of m (gate_at gates r.1)) m rs).system.parts.inputs ≡ m.system.parts.inputs
+  gate_inputs : (rs : List ℕ) (m : Imported) → (fold (λ m (r : ℕ). with_gate_of m (gate_at gates r)) m rs).system.parts.inputs ≡ m.system.parts.inputs
   gate_inputs [] m = refl
-  gate_inputs (r ∷ rs) m = gate_inputs rs (with_gate_of m (gate_at gates r.1))
+  gate_inputs (r ∷ rs) m = gate_inputs rs (with_gate_of m (gate_at gates r))
 
-  gate_resets : (rs : List (ℕ × ℕ)) (m : Imported) → (fold (λ m (r : ℕ × ℕ). with_gate_of m (gate_at gates r.1)) m rs).system.resets ≡ m.system.resets
+  gate_resets : (rs : List ℕ) (m : Imported) → (fold (λ m (r : ℕ). with_gate_of m (gate_at gates r)) m rs).system.resets ≡ m.system.resets
   gate_resets [] m = refl
-  gate_resets (r ∷ rs) m = gate_resets rs (with_gate_of m (gate_at gates r.1))
+  gate_resets (r ∷ rs) m = gate_resets rs (with_gate_of m (gate_at gates r))
 
-module _ (v : Aig) (level : ℕ → ℕ) (ranks : List (ℕ × ℕ)) (g : IsGood v) (a : AreLevels v.gates level) (o : IsByLevel v.gates level ranks) where
+module _ (v : Aig) (level : ℕ → ℕ) (ranks : List ℕ) (g : IsGood v) (a : AreLevels v.gates level) (o : AreByLevel v.gates level ranks) where
   -- before, behind the inputs, behind the latches and behind the gates
   abbrev none : Imported
   none = imported_none v.max
@@ -82,21 +85,21 @@ module _ (v : Aig) (level : ℕ → ℕ) (ranks : List (ℕ × ℕ)) (g : IsGood
   abbrev second : Imported
   second = fold with_latch_of first v.latches
 
-  abbrev step : Imported → ℕ × ℕ → Imported
-  step m r = with_gate_of m (gate_at v.gates r.1)
+  abbrev step : Imported → ℕ → Imported
+  step m r = with_gate_of m (gate_at v.gates r)
 
   abbrev last : Imported
   last = fold step second ranks
 
-  abbrev rank_var : ℕ × ℕ → ℕ
-  rank_var r = var_at v.gates r.1
+  abbrev rank_var : ℕ → ℕ
+  rank_var r = var_at v.gates r
 
   module _ (inputs latches : List Bool) where
     abbrev value : Imported → ℕ → Bool
     value m l = holds v.max inputs latches m l
 
-    abbrev told : Imported → ℕ × ℕ → Bool
-    told m r = value m (gate_at v.gates r.1).rhs0 && value m (gate_at v.gates r.1).rhs1
+    abbrev told : Imported → ℕ → Bool
+    told m r = value m (gate_at v.gates r).rhs0 && value m (gate_at v.gates r).rhs1
 
     abbrev by_input : Imported → ℕ → Bool
     by_input m l = get_or inputs m.system.parts.inputs false
@@ -110,8 +113,8 @@ module _ (v : Aig) (level : ℕ → ℕ) (ranks : List (ℕ × ℕ)) (g : IsGood
     latches_okay : All (λ (l : Latch). l.lit / 2 ≤ v.max) v.latches
     latches_okay k d lt = let i = latches_defining v g k d lt in let le = i.2 in omega arith
 
-    ranks_okay : All (λ (r : ℕ × ℕ). rank_var r ≤ v.max) ranks
-    ranks_okay k d lt = gates_within v g (get_or ranks k d).1 (inside v.gates level ranks o a (gates_apart v g) k d lt)
+    ranks_okay : All (λ (r : ℕ). rank_var r ≤ v.max) ranks
+    ranks_okay k d lt = gates_within v g (get_or ranks k d) (inside v.gates level ranks o a (gates_apart v g) k d lt)
 
     one_input : (m : Imported) (l : ℕ) → Fits v.max inputs latches m → l / 2 ≤ v.max → Defines v.max inputs latches m (with_input_of m l) (l / 2) (by_input m l)
     one_input = input_defines v.max inputs latches
@@ -119,8 +122,8 @@ module _ (v : Aig) (level : ℕ → ℕ) (ranks : List (ℕ × ℕ)) (g : IsGood
     one_latch : (m : Imported) (l : Latch) → Fits v.max inputs latches m → l.lit / 2 ≤ v.max → Defines v.max inputs latches m (with_latch_of m l) (l.lit / 2) (by_latch m l)
     one_latch = latch_defines v.max inputs latches
 
-    one_gate : (m : Imported) (r : ℕ × ℕ) → Fits v.max inputs latches m → rank_var r ≤ v.max → Defines v.max inputs latches m (step m r) (rank_var r) (told m r)
-    one_gate m r = gate_defines v.max inputs latches m (gate_at v.gates r.1)
+    one_gate : (m : Imported) (r : ℕ) → Fits v.max inputs latches m → rank_var r ≤ v.max → Defines v.max inputs latches m (step m r) (rank_var r) (told m r)
+    one_gate m r = gate_defines v.max inputs latches m (gate_at v.gates r)
 
     fits_none : Fits v.max inputs latches none
     fits_none = record {
@@ -144,8 +147,8 @@ module _ (v : Aig) (level : ℕ → ℕ) (ranks : List (ℕ × ℕ)) (g : IsGood
 
     past_gates : (l : ℕ) → ((k : ℕ) → k < length v.gates → var_at v.gates k ≢ l / 2) → value last l ≡ value second l
     past_gates l never =
-        stays v.max inputs latches step rank_var told (λ (r : ℕ × ℕ). rank_var r ≤ v.max) one_gate ranks second fits_second ranks_okay l
-        (λ k d lt. never (get_or ranks k d).1 (inside v.gates level ranks o a (gates_apart v g) k d lt))
+        stays v.max inputs latches step rank_var told (λ (r : ℕ). rank_var r ≤ v.max) one_gate ranks second fits_second ranks_okay l
+        (λ k d lt. never (get_or ranks k d) (inside v.gates level ranks o a (gates_apart v g) k d lt))
 
     constant : value last 0 ≡ false
     constant =
@@ -179,18 +182,17 @@ module _ (v : Aig) (level : ℕ → ℕ) (ranks : List (ℕ × ℕ)) (g : IsGood
         ∙ ap (λ z. get_or latches z false) (omega (arith, n, m, t))
 
     -- a gate, by its place in the order
-    ranked : (i : ℕ) (d : ℕ × ℕ) → i < length ranks → value last (gate_at v.gates (get_or ranks i d).1).lhs ≡ (value last (gate_at v.gates (get_or ranks i d).1).rhs0 && value last (gate_at v.gates (get_or ranks i d).1).rhs1)
+    ranked : (i : ℕ) (d : ℕ) → i < length ranks → value last (gate_at v.gates (get_or ranks i d)).lhs ≡ (value last (gate_at v.gates (get_or ranks i d)).rhs0 && value last (gate_at v.gates (get_or ranks i d)).rhs1)
     ranked i d lt =
-        let k : ℕ = (get_or ranks i d).1 in
         let kl = inside v.gates level ranks o a (gates_apart v g) i d lt in
-        let even = (gates_defining v g (get_or ranks i d).1 (record { lhs = 0; rhs0 = 0; rhs1 = 0 }) kl).0 in
-        let from : (l : ℕ) → level (l / 2) < level (var_at v.gates (get_or ranks i d).1) → value last l ≡ value (fold step second (take i ranks)) l = λ (l : ℕ) (lower : level (l / 2) < level (var_at v.gates (get_or ranks i d).1)).
-        stays_from v.max inputs latches step rank_var told (λ (r : ℕ × ℕ). rank_var r ≤ v.max) one_gate ranks second fits_second ranks_okay i l (λ j e le jl.
-        lower_apart v.gates level ranks o a (gates_apart v g) i j (l / 2) e le jl (subst (λ (r : ℕ × ℕ). level (l / 2) < level (rank_var r)) (get_or_default ranks i d e lt) lower)) in
-        defined_at v.max inputs latches step rank_var told (λ (r : ℕ × ℕ). rank_var r ≤ v.max) one_gate ranks second fits_second ranks_okay i (gate_at v.gates (get_or ranks i d).1).lhs d lt even refl (λ j e le jl.
-        subst (λ (r : ℕ × ℕ). rank_var (get_or ranks j e) ≢ rank_var r) (get_or_default ranks i e d lt) (later_apart v.gates level ranks o a (gates_apart v g) i j e le jl))
-        ∙ ap (λ t. t && value (fold step second (take i ranks)) (gate_at v.gates (get_or ranks i d).1).rhs1) (sym (from (gate_at v.gates (get_or ranks i d).1).rhs0 (left_lower v.gates level ranks o a (gates_apart v g) (get_or ranks i d).1 kl)))
-        ∙ ap (λ t. value last (gate_at v.gates (get_or ranks i d).1).rhs0 && t) (sym (from (gate_at v.gates (get_or ranks i d).1).rhs1 (right_lower v.gates level ranks o a (gates_apart v g) (get_or ranks i d).1 kl)))
+        let even = (gates_defining v g (get_or ranks i d) (record { lhs = 0; rhs0 = 0; rhs1 = 0 }) kl).0 in
+        let from : (l : ℕ) → level (l / 2) < level (var_at v.gates (get_or ranks i d)) → value last l ≡ value (fold step second (take i ranks)) l = λ (l : ℕ) (lower : level (l / 2) < level (var_at v.gates (get_or ranks i d))).
+        stays_from v.max inputs latches step rank_var told (λ (r : ℕ). rank_var r ≤ v.max) one_gate ranks second fits_second ranks_okay i l (λ j e le jl.
+        lower_apart v.gates level ranks o a (gates_apart v g) i j (l / 2) e le jl (subst (λ (r : ℕ). level (l / 2) < level (rank_var r)) (get_or_default ranks i d e lt) lower)) in
+        defined_at v.max inputs latches step rank_var told (λ (r : ℕ). rank_var r ≤ v.max) one_gate ranks second fits_second ranks_okay i (gate_at v.gates (get_or ranks i d)).lhs d lt even refl (λ j e le jl.
+        subst (λ (r : ℕ). rank_var (get_or ranks j e) ≢ rank_var r) (get_or_default ranks i e d lt) (later_apart v.gates level ranks o a (gates_apart v g) i j e le jl))
+        ∙ ap (λ t. t && value (fold step second (take i ranks)) (gate_at v.gates (get_or ranks i d)).rhs1) (sym (from (gate_at v.gates (get_or ranks i d)).rhs0 (left_lower v.gates level ranks o a (gates_apart v g) (get_or ranks i d) kl)))
+        ∙ ap (λ t. value last (gate_at v.gates (get_or ranks i d)).rhs0 && t) (sym (from (gate_at v.gates (get_or ranks i d)).rhs1 (right_lower v.gates level ranks o a (gates_apart v g) (get_or ranks i d) kl)))
 
     values : AreValues v inputs latches (λ l. value last l)
     values = record {
@@ -214,3 +216,9 @@ module _ (v : Aig) (level : ℕ → ℕ) (ranks : List (ℕ × ℕ)) (g : IsGood
     bads = refl;
     cons = refl;
   }
+
+-- so does the circuit that a good value says
+pub value_means : (v : Aig) → IsGood v → MeansFile v (circuit_of v)
+value_means v g =
+    let levels = gates_have_levels v.gates (gates_apart v g) (gates_acyclic v g) in
+    circuit_means v (variable_level v.gates) (places_by_level v.gates) g levels.0 levels.1

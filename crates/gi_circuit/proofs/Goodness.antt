@@ -12,7 +12,8 @@ use Rattle.gi_aiger.specs.Good.{IsGood}
 use Rattle.gi_aiger.specs.Relation as said
 use Rattle.gi_aiger.proofs.Limiting.{are_within}
 use Rattle.gi_aiger.proofs.Sounding.{variables_are, defining_all}
-use Rattle.gi_circuit.specs.Import.{var_at, AreApart, IsAcyclic}
+use Rattle.gi_aiger.specs.Levels.{HasLevels, IsDistinct}
+use Rattle.gi_circuit.specs.Import.{var_at}
 use Rattle.gi_circuit.specs.Importable.{IsImportable}
 
 all_left : {X : Type 0} (P : X → Type 0) (xs ys : List X) → All P (xs ++ ys) → All P xs
@@ -91,9 +92,9 @@ module _ (v : Aig) (g : IsGood v) where
       let p = same_place (length v.inputs + j) (length v.inputs + k) (omega (arith, jl, length-all)) (omega (arith, kl, length-all)) (ap (λ (x : ℕ). x / 2) (latch_at j d jl) ∙ e ∙ sym (ap (λ (x : ℕ). x / 2) (latch_at k d kl))) in
       omega (arith, p)
 
-  pub gates_apart : AreApart v.gates
+  pub gates_apart : IsDistinct v.gates
   gates_apart = record {
-    each = λ j k jl kl e.
+    apart = λ j k jl kl e.
         let d : AndGate = record { lhs = 0; rhs0 = 0; rhs1 = 0 } in
         let p = same_place (length v.inputs + length v.latches + j) (length v.inputs + length v.latches + k) (omega (arith, jl, length-all)) (omega (arith, kl, length-all)) (ap (λ (x : ℕ). x / 2) (gate_at j (record { lhs = 0; rhs0 = 0; rhs1 = 0 }) jl) ∙ e ∙ sym (ap (λ (x : ℕ). x / 2) (gate_at k (record { lhs = 0; rhs0 = 0; rhs1 = 0 }) kl))) in
         omega (arith, p);
@@ -117,8 +118,8 @@ module _ (v : Aig) (g : IsGood v) where
   pub gates_within : (k : ℕ) → k < length v.gates → var_at v.gates k ≤ v.max
   gates_within k lt = let d = gates_defining k (record { lhs = 0; rhs0 = 0; rhs1 = 0 }) lt in let le = d.2 in omega arith
 
-  pub gates_acyclic : IsAcyclic v.gates
-  gates_acyclic = record { level = s.levels.level; left = s.levels.left; right = s.levels.right }
+  pub gates_acyclic : HasLevels v.gates
+  gates_acyclic = s.levels
 
   pub importable : IsImportable v
   importable =

@@ -3,7 +3,6 @@ pub mod Sound
 pub mod Meaning
 pub mod Again
 pub mod Wiring
-pub mod Ordering
 pub mod Importing
 pub mod Goodness
 pub mod Holding

@@ -8,7 +8,8 @@ use Rattle.gi_aiger.specs.Good.{IsGood}
 use Rattle.gi_circuit.specs.Values.{value_in}
 use Rattle.gi_circuit.specs.Nodes.{node_values}
 use Rattle.gi_circuit.specs.Systems.{System}
-use Rattle.gi_circuit.specs.Import.{gate_at, AreLevels, IsByLevel, system_of}
+use Rattle.gi_aiger.specs.Levels.{gate_at}
+use Rattle.gi_circuit.specs.Import.{circuit_of}
 
 -- the latch at a place
 abbrev pub latch_at : List Latch → ℕ → Latch
@@ -36,4 +37,4 @@ pub record MeansFile (v : Aig) (s : System) : Type 0 where
 
 -- the circuit that is made of a value that some file says means that file
 abbrev pub CircuitsMeanTheirFiles : Type 0
-CircuitsMeanTheirFiles = (v : Aig) (level : ℕ → ℕ) (ranks : List (ℕ × ℕ)) → IsGood v → AreLevels v.gates level → IsByLevel v.gates level ranks → MeansFile v (system_of v ranks)
+CircuitsMeanTheirFiles = (v : Aig) → IsGood v → MeansFile v (circuit_of v)

@@ -2,7 +2,8 @@
 use Rattle.std.specs.Prelude.{ℕ, ◌+◌, ◌^◌, ◌<◌, ◌≤◌, length}
 use Rattle.gi_aiger.specs.declared.aig.Aig.{Aig}
 use Rattle.gi_aiger.specs.Good.{IsGood}
-use Rattle.gi_circuit.specs.Import.{var_at, AreApart, IsAcyclic}
+use Rattle.gi_aiger.specs.Levels.{HasLevels, IsDistinct}
+use Rattle.gi_circuit.specs.Import.{var_at}
 
 -- all that `from_aig` requires of a value
 pub record IsImportable (v : Aig) : Type 0 where
@@ -11,8 +12,8 @@ pub record IsImportable (v : Aig) : Type 0 where
   pub bads : length v.bads < 2 ^ 32
   pub cons : length v.cons < 2 ^ 32
   pub within : (k : ℕ) → k < length v.gates → var_at v.gates k ≤ v.max
-  pub apart : AreApart v.gates
-  pub acyclic : IsAcyclic v.gates
+  pub apart : IsDistinct v.gates
+  pub acyclic : HasLevels v.gates
 
 -- each value that some file says has it
 abbrev pub GoodIsImportable : Type 0

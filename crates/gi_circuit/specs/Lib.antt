@@ -5,6 +5,5 @@ pub mod Laws
 pub mod Frames
 pub mod Encoding
 pub mod Import
-pub mod Order
 pub mod Importable
 pub mod Files

@@ -1,15 +1,14 @@
 ghost use Rattle.std.specs.Prelude.{◌≡◌, ◌+◌, ◌/◌, ◌^◌, ◌<◌, ◌≤◌, ◌∷◌, ◌++◌, [], length, slice_set, count_by, ℕ, List, All, IfOk, OnOk, OnErr};
 ghost use Rattle.gi_circuit.specs.Nodes.{node_values, and_in, is_gate, IsMade, next_edge};
-ghost use Rattle.gi_circuit.specs.Import.{AreLevels, IsByLevel, system_of};
+ghost use Rattle.gi_circuit.specs.Import.{circuit_of};
 ghost use Rattle.gi_circuit.specs.Importable.{IsImportable};
 ghost use Rattle.gi_circuit.specs.Systems.{empty_system, IsCircuit, input_added, latch_added};
 
 use crate::import::Importer;
 use crate::net::Net;
 use crate::node::Node;
-use crate::order::gates_by_level;
 use crate::values::Values;
-use gi_aiger::{Aig, Reset};
+use gi_aiger::{Aig, Reset, acyclic_places};
 use gi_lit::Edge;
 use std::alloc::{AllocError, Global};
 use std::marker::Model;
@@ -251,14 +250,14 @@ impl Circuit {
     /// so it is for each value that a file says (`good_is_importable`).
     pub fn from_aig(alloc: Global, aig: &Aig) -> Result<Circuit, AllocError>
         requires { IsImportable aig.now }
-        ensures { IfOk result (λ c. (level : ℕ → ℕ) × AreLevels aig.now.gates level × ((ranks : List (ℕ × ℕ)) × IsByLevel aig.now.gates level ranks × (c ≡ system_of aig.now ranks))) }
+        ensures { IfOk result (λ c. c ≡ circuit_of aig.now) }
     {
         let gates = aig.gates.as_slice();
-        let ranks = gates_by_level(alloc, aig.max, gates)?;
-        let mut importer = Importer::new(alloc, aig.max)?;
+        let places = acyclic_places(alloc, gates)?;
+        let mut importer = Importer::new(alloc, aig.max);
         importer.inputs(aig.inputs.as_slice())?;
         importer.latches(aig.latches.as_slice())?;
-        importer.gates(gates, &ranks)?;
+        importer.gates(gates, &places)?;
         importer.finish(alloc, aig)
     }
 }

@@ -2,10 +2,11 @@
 ghost use Rattle.std.specs.Prelude.{◌≡◌, ◌+◌, ◌/◌, ◌^◌, ◌<◌, ◌≤◌, ℕ, length, map, fold, slice_index, slice_set, All, IfOk, OnOk};
 ghost use Rattle.gi_aiger.specs.declared.aig.Latch.{Latch};
 ghost use Rattle.gi_circuit.specs.Frames.{edge_of};
-ghost use Rattle.gi_circuit.specs.Import.{Imported, imported_none, with_input_of, with_latch_of, with_gate_of, gate_at, finished};
+ghost use Rattle.gi_circuit.specs.Import.{Imported, imported_none, with_input_of, with_latch_of, with_gate_of, finished};
+ghost use Rattle.gi_aiger.specs.Levels.{gate_at};
 
 use crate::circuit::Circuit;
-use crate::order::Rank;
+use crate::found::Found;
 use gi_aiger::{Aig, AndGate, Latch};
 use gi_lit::Edge;
 use std::alloc::{AllocError, Global};
@@ -15,7 +16,7 @@ use std::marker::Model;
 #[derive(Drop)]
 pub(crate) struct Importer {
     circuit: Circuit,
-    edges: Vec<Edge>,
+    edges: Found,
 }
 
 impl Model for Importer {
@@ -24,20 +25,19 @@ impl Model for Importer {
 
     ghost Value = { Imported };
 
-    ghost view = { λ m. record { system = m.circuit; edges = m.edges.items } };
+    ghost view = { λ m. record { system = m.circuit; edges = m.edges } };
 
-    ghost invariant = { λ m. All (λ e. e / 2 ≤ length m.circuit.parts.nodes) m.edges.items };
+    ghost invariant = { λ m. All (λ e. e / 2 ≤ length m.circuit.parts.nodes) m.edges };
 }
 
 impl Importer {
-    pub(crate) fn new(alloc: Global, max: u32) -> Result<Importer, AllocError>
-        ensures { IfOk result (λ m. m ≡ imported_none max) }
+    pub(crate) fn new(alloc: Global, max: u32) -> Importer
+        ensures { result ≡ imported_none max }
     {
-        let edges = vec![in alloc; Edge::new(0); max as usize + 1]?;
-        Ok(Importer {
+        Importer {
             circuit: Circuit::new(alloc),
-            edges,
-        })
+            edges: Found::new(alloc, max as usize + 1),
+        }
     }
 
     /// What stands for an edge of the file.
@@ -45,31 +45,25 @@ impl Importer {
         ensures value { result ≡ edge_of self.now.edges e }
         ensures within { result / 2 ≤ length self.now.system.parts.nodes }
     {
-        let edge = self.found(e.node() as usize);
+        let edge = self.found(e.node());
         if e.is_negative() { edge.not() } else { edge }
     }
 
     /// What stands for a variable.
-    fn found(&self, v: usize) -> Edge
+    fn found(&self, v: u32) -> Edge
         ensures value { result ≡ slice_index self.now.edges v }
         ensures within { result / 2 ≤ length self.now.system.parts.nodes }
     {
-        if v < self.edges.len() {
-            self.edges[v]
-        } else {
-            Edge::new(0)
-        }
+        self.edges.get(v)
     }
 
     /// Notes what stands for the variable of a literal.
-    fn define(&mut self, literal: Edge, edge: Edge)
+    fn define(&mut self, literal: Edge, edge: Edge) -> Result<(), AllocError>
         requires { edge / 2 ≤ length self.old.system.parts.nodes }
-        ensures { self.new ≡ record self.old { edges = slice_set self.old.edges (literal / 2) edge } }
+        ensures { OnOk result (self.new ≡ record self.old { edges = slice_set self.old.edges (literal / 2) edge }) }
     {
-        let v = literal.node() as usize;
-        if v < self.edges.len() {
-            self.edges[v] = edge;
-        }
+        self.edges.put(literal.node(), edge)?;
+        Ok(())
     }
 
     fn input(&mut self, literal: Edge) -> Result<(), AllocError>
@@ -77,7 +71,7 @@ impl Importer {
         ensures { OnOk result (self.new ≡ with_input_of self.old literal) }
     {
         let edge = self.circuit.input()?;
-        self.define(literal, edge);
+        self.define(literal, edge)?;
         Ok(())
     }
 
@@ -86,7 +80,7 @@ impl Importer {
         ensures { OnOk result (self.new ≡ with_latch_of self.old latch) }
     {
         let edge = self.circuit.latch(latch.reset)?;
-        self.define(latch.lit, edge);
+        self.define(latch.lit, edge)?;
         Ok(())
     }
 
@@ -96,7 +90,7 @@ impl Importer {
     {
         let (a, b) = (self.edge(gate.rhs0), self.edge(gate.rhs1));
         let edge = self.circuit.and(a, b)?;
-        self.define(gate.lhs, edge);
+        self.define(gate.lhs, edge)?;
         Ok(())
     }
 
@@ -122,14 +116,14 @@ impl Importer {
         Ok(())
     }
 
-    /// All gates in the order of the ranks.
-    pub(crate) fn gates(&mut self, gates: &[AndGate], ranks: &[Rank]) -> Result<(), AllocError>
-        requires room { length self.old.system.parts.nodes + length ranks.now < 2 ^ 31 }
-        requires places { All (λ (r : ℕ × ℕ). r.1 < length gates.now) ranks.now }
-        ensures { OnOk result (self.new ≡ fold (λ m (r : ℕ × ℕ). with_gate_of m (gate_at gates.now r.1)) self.old ranks.now) }
+    /// The gates at places, in the order of these.
+    pub(crate) fn gates(&mut self, gates: &[AndGate], places: &[usize]) -> Result<(), AllocError>
+        requires room { length self.old.system.parts.nodes + length places.now < 2 ^ 31 }
+        requires inside { All (λ (k : ℕ). k < length gates.now) places.now }
+        ensures { OnOk result (self.new ≡ fold (λ m (k : ℕ). with_gate_of m (gate_at gates.now k)) self.old places.now) }
     {
-        for rank in ranks {
-            self.gate(gates[rank.1])?;
+        for place in places {
+            self.gate(gates[*place])?;
         }
         Ok(())
     }

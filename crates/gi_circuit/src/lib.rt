@@ -3,11 +3,11 @@
 
 mod circuit;
 mod fold;
+mod found;
 mod import;
 mod laws;
 mod net;
 mod node;
-mod order;
 #[cfg(test)]
 mod tests;
 mod values;

@@ -1,4 +1,4 @@
-ghost use Rattle.std.specs.Prelude.{IfOk};
+ghost use Rattle.std.specs.Prelude.{IfOk, IfSome};
 ghost use Rattle.gi_circuit.specs.Importable.{IsImportable};
 
 use crate::{Circuit, Counts, Node, good_is_importable};
@@ -71,148 +71,214 @@ fn add(c: &mut Circuit, out: u32, bad: u32, con: u32) -> Result<bool, AllocError
     Ok(true)
 }
 
+/// Two edges, and the edge of their conjunction.
+const FOLDED: [(u32, u32, u32); 6] = [
+    (2, 4, 6),
+    (4, 2, 6),
+    (2, 2, 2),
+    (2, 3, 0),
+    (0, 4, 0),
+    (1, 4, 4),
+];
+
+fn are_made(c: &mut Circuit) -> Result<bool, AllocError> {
+    for (a, b, made) in FOLDED {
+        if and(c, a, b)? != Some(made) {
+            return Ok(false);
+        }
+    }
+    Ok(true)
+}
+
+/// The edges that are true where both inputs are.
+fn are_evaluated(alloc: Global, c: &Circuit) -> Result<bool, AllocError> {
+    for (e, expected) in [(6, true), (7, false), (0, false), (1, true)] {
+        if value(alloc, c, &[true, true], &[], e)? != Some(expected) {
+            return Ok(false);
+        }
+    }
+    Ok(true)
+}
+
+const COUNTS: Counts = Counts {
+    inputs: 2,
+    latches: 1,
+    gates: 1,
+    outs: 1,
+    bads: 1,
+    cons: 1,
+};
+
+fn is_finished(c: &mut Circuit) -> Result<bool, AllocError> {
+    let latch = latch(c, Reset::Zero)?;
+    let added = add(c, 6, 7, 8)?;
+    Ok(latch == Some(8) && added && c.counts() == COUNTS)
+}
+
 #[test]
 fn gates_are_folded_found_and_evaluated(rt: HostRuntime) -> Result<(), Fail> {
     let mut c = Circuit::new(rt.alloc());
-    assert_eq!(rt; input(&mut c)?, Some(2));
-    assert_eq!(rt; input(&mut c)?, Some(4));
-    for (a, b, made) in [
-        (2, 4, 6),
-        (4, 2, 6),
-        (2, 2, 2),
-        (2, 3, 0),
-        (0, 4, 0),
-        (1, 4, 4),
-    ] {
-        assert_eq!(rt; and(&mut c, a, b)?, Some(made), "at {a} and {b}");
-    }
-    for (e, expected) in [(6, true), (7, false), (0, false), (1, true)] {
-        assert_eq!(rt;
-            value(rt.alloc(), &c, &[true, true], &[], e)?,
-            Some(expected),
-            "at {e}"
-        );
-    }
-    assert_eq!(rt; latch(&mut c, Reset::Zero)?, Some(8));
-    assert_eq!(rt; add(&mut c, 6, 7, 8)?, true);
-    let counts = Counts {
-        inputs: 2,
-        latches: 1,
-        gates: 1,
-        outs: 1,
-        bads: 1,
-        cons: 1,
-    };
-    assert_eq!(rt; c.counts(), counts);
+    let first = input(&mut c)?;
+    let second = input(&mut c)?;
+    assert!(rt; first == Some(2) && second == Some(4));
+    assert!(rt; are_made(&mut c)?);
+    assert!(rt; are_evaluated(rt.alloc(), &c)?);
+    assert!(rt; is_finished(&mut c)?);
     Ok(())
 }
 
-/// What a file says.
-fn read(alloc: Global, file: &str) -> Result<Aig, Fail>
-    ensures { IfOk result IsImportable }
+/// What a file says, if it says something.
+fn value_of(alloc: Global, file: &[u8]) -> Result<Option<Aig>, AllocError>
+    ensures { IfOk result (λ value. IfSome value IsImportable) }
 {
     said_is_good();
     good_is_importable();
     let mut reader = AigReader::new(alloc);
-    reader.feed(file.as_bytes())?;
+    reader.feed(file)?;
     match reader.finish() {
-        AigRead::Aig(aig) => Ok(aig),
-        AigRead::Fault(_) => Err("a file without a fault".into()),
-        AigRead::NoMemory => Err("memory".into()),
+        AigRead::Aig(aig) => Ok(Some(aig)),
+        AigRead::Fault(_) => Ok(None),
+        AigRead::NoMemory => Err(AllocError),
     }
 }
 
-/// The circuit of a file.
-fn circuit_of(alloc: Global, file: &str) -> Result<Circuit, Fail> {
-    let aig = read(alloc, file)?;
-    Ok(Circuit::from_aig(alloc, &aig)?)
-}
-
-/// Two numbers for each node: 0 and the place of an input, 1 and that of a latch, or the edges of a gate.
-fn nodes(alloc: Global, c: &Circuit) -> Result<Vec<u32>, AllocError> {
-    let mut all = Vec::new(alloc);
-    for node in c.nodes() {
-        let (first, second) = match *node {
-            Node::Input(place) => (0, place),
-            Node::Latch(place) => (1, place),
-            Node::Gate(a, b) => (a.code(), b.code()),
-        };
-        all.push(first)?;
-        all.push(second)?;
+fn circuit_of(alloc: Global, file: &[u8]) -> Result<Option<Circuit>, AllocError> {
+    match value_of(alloc, file)? {
+        None => Ok(None),
+        Some(aig) => Ok(Some(Circuit::from_aig(alloc, &aig)?)),
     }
-    Ok(all)
 }
 
-/// Puts the codes of edges behind a list.
-fn push_codes(all: &mut Vec<u32>, edges: &[Edge]) -> Result<(), AllocError> {
-    for e in edges {
-        all.push(e.code())?;
+/// Two numbers for a node: 0 and the place of an input, 1 and that of a latch, or the edges of a gate.
+fn pair_of(node: Node) -> (u32, u32) {
+    match node {
+        Node::Input(place) => (0, place),
+        Node::Latch(place) => (1, place),
+        Node::Gate(a, b) => (a.code(), b.code()),
     }
-    Ok(())
 }
 
-/// The next states, the outputs, the bad states and the constraints.
-fn edges(alloc: Global, c: &Circuit) -> Result<Vec<u32>, AllocError> {
-    let mut all = Vec::new(alloc);
-    push_codes(&mut all, c.nexts())?;
-    push_codes(&mut all, c.outs())?;
-    push_codes(&mut all, c.bads())?;
-    push_codes(&mut all, c.cons())?;
-    Ok(all)
+fn nodes_are(nodes: &[Node], expected: &[(u32, u32)]) -> bool {
+    if nodes.len() != expected.len() {
+        return false;
+    }
+    for k in 0..nodes.len() {
+        if k < expected.len() && pair_of(nodes[k]) != expected[k] {
+            return false;
+        }
+    }
+    true
 }
 
-/// Files, with the nodes and the edges of their circuits: a conjunction; a latch that turns; gates that stand
-/// before their operands, where two have the same level; gates that fold; and a pair in either order.
+fn edges_are(edges: &[Edge], expected: &[u32]) -> bool {
+    if edges.len() != expected.len() {
+        return false;
+    }
+    for k in 0..edges.len() {
+        if k < expected.len() && edges[k].code() != expected[k] {
+            return false;
+        }
+    }
+    true
+}
+
+/// A file, and its circuit's nodes, next states, outputs, bad states and constraints.
+#[derive(Clone, Copy)]
+struct Row {
+    file: &'static [u8],
+    nodes: &'static [(u32, u32)],
+    nexts: &'static [u32],
+    outs: &'static [u32],
+    bads: &'static [u32],
+    cons: &'static [u32],
+}
+
+/// A conjunction; a latch that turns; gates that stand before their operands, where two have the same level; gates that fold;
+/// and a pair in either order.
+const ROWS: [Row; 5] = [
+    Row {
+        file: b"aag 3 2 0 1 1\n2\n4\n6\n6 2 4\n",
+        nodes: &[(0, 0), (0, 1), (2, 4)],
+        nexts: &[],
+        outs: &[6],
+        bads: &[],
+        cons: &[],
+    },
+    Row {
+        file: b"aag 1 0 1 2 0\n2 3\n2\n3\n",
+        nodes: &[(1, 0)],
+        nexts: &[3],
+        outs: &[2, 3],
+        bads: &[],
+        cons: &[],
+    },
+    Row {
+        file: b"aag 6 2 1 1 3 1 1\n2\n4\n6 13 1\n12\n10\n9\n12 8 10\n10 2 6\n8 5 3\n",
+        nodes: &[(0, 0), (0, 1), (1, 0), (2, 6), (3, 5), (8, 10)],
+        nexts: &[13],
+        outs: &[12],
+        bads: &[8],
+        cons: &[11],
+    },
+    Row {
+        file: b"aag 5 1 0 1 2\n2\n10\n10 8 3\n8 2 2\n",
+        nodes: &[(0, 0)],
+        nexts: &[],
+        outs: &[0],
+        bads: &[],
+        cons: &[],
+    },
+    Row {
+        file: b"aag 4 2 0 2 2\n2\n4\n6\n9\n6 2 4\n8 4 2\n",
+        nodes: &[(0, 0), (0, 1), (2, 4)],
+        nexts: &[],
+        outs: &[6, 7],
+        bads: &[],
+        cons: &[],
+    },
+];
+
+fn is_row(c: &Circuit, row: &Row) -> bool {
+    nodes_are(c.nodes(), row.nodes)
+        && edges_are(c.nexts(), row.nexts)
+        && edges_are(c.outs(), row.outs)
+        && edges_are(c.bads(), row.bads)
+        && edges_are(c.cons(), row.cons)
+}
+
+fn makes_row(alloc: Global, row: &Row) -> Result<bool, AllocError> {
+    match circuit_of(alloc, row.file)? {
+        None => Ok(false),
+        Some(c) => Ok(is_row(&c, row)),
+    }
+}
+
 #[test]
 fn circuits_of_files(rt: HostRuntime) -> Result<(), Fail> {
-    for (file, expected_nodes, expected_edges) in [
-        (
-            "aag 3 2 0 1 1\n2\n4\n6\n6 2 4\n",
-            [0, 0, 0, 1, 2, 4].as_slice(),
-            [6].as_slice(),
-        ),
-        (
-            "aag 1 0 1 2 0\n2 3\n2\n3\n",
-            [1, 0].as_slice(),
-            [3, 2, 3].as_slice(),
-        ),
-        (
-            "aag 6 2 1 1 3 1 1\n2\n4\n6 13 1\n12\n10\n9\n12 8 10\n10 2 6\n8 5 3\n",
-            [0, 0, 0, 1, 1, 0, 2, 6, 3, 5, 8, 10].as_slice(),
-            [13, 12, 8, 11].as_slice(),
-        ),
-        (
-            "aag 5 1 0 1 2\n2\n10\n10 8 3\n8 2 2\n",
-            [0, 0].as_slice(),
-            [0].as_slice(),
-        ),
-        (
-            "aag 4 2 0 2 2\n2\n4\n6\n9\n6 2 4\n8 4 2\n",
-            [0, 0, 0, 1, 2, 4].as_slice(),
-            [6, 7].as_slice(),
-        ),
-    ] {
-        let c = circuit_of(rt.alloc(), file)?;
-        let made = nodes(rt.alloc(), &c)?;
-        assert_eq!(rt; made.as_slice(), expected_nodes, "at {file}");
-        let named = edges(rt.alloc(), &c)?;
-        assert_eq!(rt; named.as_slice(), expected_edges, "at {file}");
+    for row in ROWS {
+        assert!(rt; makes_row(rt.alloc(), &row)?);
     }
     Ok(())
+}
+
+/// Whether a circuit's latches have all three resets and their own values next, and the second takes another next state.
+fn turns_second(c: &mut Circuit) -> bool {
+    let resets = c.resets() == [Reset::Zero, Reset::One, Reset::Free].as_slice();
+    let kept = edges_are(c.nexts(), &[2, 4, 6]);
+    if c.counts().latches > 1 && c.nodes().len() >= 3 {
+        c.set_next(1, Edge::new(7));
+    }
+    resets && kept && edges_are(c.nexts(), &[2, 7, 6])
 }
 
 /// A latch has its file's reset, and keeps its value until it is given a next state.
 #[test]
 fn resets_and_next_states(rt: HostRuntime) -> Result<(), Fail> {
-    let mut c = circuit_of(rt.alloc(), "aag 3 0 3 0 0\n2 2\n4 4 1\n6 6 6\n")?;
-    assert_eq!(rt;
-        c.resets(),
-        [Reset::Zero, Reset::One, Reset::Free].as_slice()
-    );
-    assert_eq!(rt; edges(rt.alloc(), &c)?.as_slice(), [2, 4, 6].as_slice());
-    if c.counts().latches > 1 && c.nodes().len() >= 3 {
-        c.set_next(1, Edge::new(7));
-    }
-    assert_eq!(rt; edges(rt.alloc(), &c)?.as_slice(), [2, 7, 6].as_slice());
+    let file = b"aag 3 0 3 0 0\n2 2\n4 4 1\n6 6 6\n";
+    let right = match circuit_of(rt.alloc(), file)? {
+        None => false,
+        Some(mut c) => turns_second(&mut c),
+    };
+    assert!(rt; right);
     Ok(())
 }

@@ -3,6 +3,7 @@ ghost use Rattle.std.specs.Prelude.{◌≡◌, ◌==◌, ◌+◌, ◌-◌, ◌*�
 ghost use Rattle.gi_circuit.specs.Nodes.{IsPlaced, IsOrdered, IsSound, is_gate};
 ghost use Rattle.gi_circuit.specs.Frames.{Draft, lit_of, edge_of, with_choice, with_gate, with_node, input_along, reset_along, draft_of};
 ghost use Rattle.gi_unroll.specs.Steps.{empty_draft, parts_of, frames_of, along, defined, IsReady, HasEdges, IsLonger};
+ghost use Rattle.gi_lit.specs.Literals.{max_var};
 
 use crate::clauses::{push_gate, push_unit, variable};
 use gi_aiger::Reset;
@@ -97,7 +98,7 @@ impl Builder {
     /// Begins a frame after `made` others whose variables are n and above.
     pub(crate) fn begin(&mut self, made: u32, n: u32) -> Result<(), AllocError>
         requires low { 1 ≤ n }
-        requires high { n ≤ 1048576 }
+        requires high { n ≤ max_var }
         requires start { made ≡ 0 → (self.old.net ≡ []) × (self.old.lits ≡ []) }
         ensures ok { OnOk result (self.new ≡ draft_of (frames_of self.old [] made) n) }
         ensures err { OnErr result (IsLonger self.old self.new) }
@@ -116,7 +117,7 @@ impl Builder {
     /// The variable that is true.
     fn begin_first(&mut self) -> Result<(), AllocError>
         requires low { 1 ≤ self.old.next }
-        requires high { self.old.next ≤ 1048576 }
+        requires high { self.old.next ≤ max_var }
         ensures ok { OnOk result (self.new ≡ record self.old { lits = self.old.lits ++ (2 * self.old.next + 1) ∷ []; next = self.old.next + 1; clauses = self.old.clauses ++ (2 * self.old.next ∷ []) ∷ [] }) }
         ensures err { OnErr result ((self.new.net ≡ self.old.net) × (self.new.lits ≡ self.old.lits)) }
     {
@@ -130,7 +131,7 @@ impl Builder {
     /// A choice more, which takes a variable.
     fn choice(&mut self) -> Result<Edge, AllocError>
         requires ready { IsReady self.old }
-        requires room { self.old.next ≤ 1048576 }
+        requires room { self.old.next ≤ max_var }
         ensures ok { OnOk result (self.new ≡ with_choice self.old) }
         ensures edge { IfOk result (λ e. e ≡ 2 * (length self.old.net + 1)) }
         ensures err { OnErr result (self.new ≡ self.old) }
@@ -164,7 +165,7 @@ impl Builder {
     /// The conjunction of two edges of the shared circuit. Only a new gate takes a variable.
     fn gate(&mut self, a: Edge, b: Edge) -> Result<(), AllocError>
         requires ready { IsReady self.old }
-        requires room { self.old.next ≤ 1048576 }
+        requires room { self.old.next ≤ max_var }
         requires first { a / 2 ≤ length self.old.net }
         requires second { b / 2 ≤ length self.old.net }
         ensures ok { OnOk result (self.new ≡ with_gate self.old a b) }
@@ -180,7 +181,7 @@ impl Builder {
     /// before.
     fn define(&mut self, before: u32, a: Edge, b: Edge) -> Result<(), AllocError>
         requires low { 1 ≤ self.old.next }
-        requires room { self.old.next ≤ 1048576 }
+        requires room { self.old.next ≤ max_var }
         requires first { a / 2 < length self.old.lits }
         requires second { b / 2 < length self.old.lits }
         ensures ok { OnOk result (self.new ≡ (if length self.old.net == before then self.old else defined self.old a b)) }
@@ -201,7 +202,7 @@ impl Builder {
     /// A node of the circuit, over the edges of its inputs and latches in the shared one.
     fn node(&mut self, node: Node, inputs: &[Edge], latches: &[Edge]) -> Result<(), AllocError>
         requires ready { IsReady self.old }
-        requires room { self.old.next + (if is_gate node then 1 else 0) ≤ 1048577 }
+        requires room { self.old.next + (if is_gate node then 1 else 0) ≤ max_var + 1 }
         requires some { 1 ≤ length self.old.edges }
         requires edges { All (λ e. e / 2 ≤ length self.old.net) self.old.edges }
         requires placed { IsPlaced (length inputs.now) (length latches.now) (length self.old.edges - 1) node }
@@ -232,7 +233,7 @@ impl Builder {
         latches: &[Edge],
     ) -> Result<(), AllocError>
         requires ready { IsReady self.old }
-        requires room { self.old.next + count_by is_gate nodes.now ≤ 1048577 }
+        requires room { self.old.next + count_by is_gate nodes.now ≤ max_var + 1 }
         requires edges { HasEdges 0 self.old }
         requires ordered { IsOrdered (record { inputs = length inputs.now; latches = length latches.now; nodes = nodes.now }) }
         requires inputs { All (λ e. e / 2 ≤ length self.old.net) inputs.now }
@@ -249,7 +250,7 @@ impl Builder {
     /// The edges of a frame's inputs, which are choices.
     pub(crate) fn inputs(&mut self, count: u32) -> Result<Vec<Edge>, AllocError>
         requires ready { IsReady self.old }
-        requires room { self.old.next + count ≤ 1048577 }
+        requires room { self.old.next + count ≤ max_var + 1 }
         ensures ok { IfOk result (λ es. along self.new es.items ≡ input_along count (along self.old [])) }
         ensures err { OnErr result (IsLonger self.old self.new) }
     {
@@ -264,7 +265,7 @@ impl Builder {
     /// The edge of a latch at first.
     fn reset(&mut self, reset: Reset, edges: &mut Vec<Edge>) -> Result<(), AllocError>
         requires ready { IsReady self.old }
-        requires room { self.old.next ≤ 1048576 }
+        requires room { self.old.next ≤ max_var }
         ensures ok { OnOk result (along self.new edges.new.items ≡ reset_along (along self.old edges.old.items) reset) }
         ensures err { OnErr result (IsLonger self.old self.new) }
     {
@@ -280,7 +281,7 @@ impl Builder {
     /// The edges of the latches at first: constants, and choices for the free ones.
     pub(crate) fn resets(&mut self, resets: &[Reset]) -> Result<Vec<Edge>, AllocError>
         requires ready { IsReady self.old }
-        requires room { self.old.next + length resets.now ≤ 1048577 }
+        requires room { self.old.next + length resets.now ≤ max_var + 1 }
         ensures ok { IfOk result (λ es. along self.new es.items ≡ fold reset_along (along self.old []) resets.now) }
         ensures err { OnErr result (IsLonger self.old self.new) }
     {

@@ -3,6 +3,7 @@ ghost use Rattle.std.specs.Prelude.{◌≡◌, ℕ, ◌+◌, ◌/◌, ◌<◌, �
 ghost use Rattle.gi_circuit.specs.Frames.{lit_of, edge_of, input_along, latches_of, framed, frame_of};
 ghost use Rattle.gi_unroll.specs.Steps.{frames_of, along, IsReady, HasEdges, IsLonger};
 ghost use Rattle.gi_unroll.specs.Frames.{IsKept, most_of, IsFrame};
+ghost use Rattle.gi_lit.specs.Literals.{max_var};
 
 use crate::builder::Builder;
 use crate::frame::Frame;
@@ -33,7 +34,7 @@ pub(crate) fn extend(
     n: u32,
 ) -> Result<Extended, AllocError>
     requires kept { (top : ℕ) × (top < n) × IsKept (record { system = circuit.now; frames = frames_of builder.old latches.now made; top = top }) }
-    requires room { n + most_of circuit.now ≤ 1048577 }
+    requires room { n + most_of circuit.now ≤ max_var + 1 }
     ensures frame { IfOk result (λ x. IsFrame x.frame made (frame_of circuit.now (frames_of builder.old latches.now made) n)) }
     ensures frames { IfOk result (λ x. frames_of builder.new x.nexts.items (made + 1) ≡ (frame_of circuit.now (frames_of builder.old latches.now made) n).frames) }
     ensures fresh { IfOk result (λ x. x.frame.fresh ≤ most_of circuit.now) }
@@ -57,7 +58,7 @@ fn begin_edges(
     made: u32,
 ) -> Result<Begun, AllocError>
     requires ready { IsReady builder.old }
-    requires room { builder.old.next + circuit.now.parts.inputs + circuit.now.parts.latches ≤ 1048577 }
+    requires room { builder.old.next + circuit.now.parts.inputs + circuit.now.parts.latches ≤ max_var + 1 }
     ensures inputs { IfOk result (λ b. b.inputs.items ≡ (input_along circuit.now.parts.inputs (along builder.old [])).edges) }
     ensures latches { IfOk result (λ b. along builder.new b.latches.items ≡ latches_of circuit.now (frames_of builder.old latches.now made) (record (input_along circuit.now.parts.inputs (along builder.old [])) { edges = [] })) }
     ensures err { OnErr result (IsLonger builder.old builder.new) }
@@ -74,7 +75,7 @@ fn begin_latches(
     made: u32,
 ) -> Result<Vec<Edge>, AllocError>
     requires ready { IsReady builder.old }
-    requires room { builder.old.next + circuit.now.parts.latches ≤ 1048577 }
+    requires room { builder.old.next + circuit.now.parts.latches ≤ max_var + 1 }
     ensures latches { IfOk result (λ es. along builder.new es.items ≡ latches_of circuit.now (frames_of builder.old latches.now made) (along builder.old [])) }
     ensures err { OnErr result (IsLonger builder.old builder.new) }
 {

@@ -2,6 +2,7 @@ ghost use Rattle.std.specs.Prelude.{◌≡◌, ◌+◌, ◌<◌, ◌≤◌, [], 
 ghost use Rattle.gi_circuit.specs.Frames.{frame_of};
 ghost use Rattle.gi_circuit.specs.Encoding.{IsUnrolled};
 ghost use Rattle.gi_unroll.specs.Frames.{IsKept, Unrolled, unrolled, most_of, IsFrame, with_frame, top_after, KeepsEncoding, KeepsLiterals, NamesVariables, IsShort};
+ghost use Rattle.gi_lit.specs.Literals.{max_var};
 
 use crate::builder::Builder;
 use crate::extend::{Extended, extend};
@@ -83,7 +84,7 @@ impl Unroll {
     /// want of memory, all is as before.
     pub fn frame(&mut self, next_var: u32) -> Result<Frame, AllocError>
         requires above { self.old.top < next_var }
-        requires room { next_var + most_of self.old.system ≤ 1048577 }
+        requires room { next_var + most_of self.old.system ≤ max_var + 1 }
         requires more { self.old.frames.made < 4294967295 }
         ensures frame { IfOk result (λ r. IsFrame r self.old.frames.made (frame_of self.old.system self.old.frames next_var)) }
         ensures unrolled { OnOk result (self.new ≡ with_frame self.old next_var) }
@@ -120,7 +121,7 @@ impl Unroll {
 
 /// The greatest variable that frames took, where one took some from n on.
 fn top_after(top: u32, n: u32, fresh: u32) -> u32
-    requires { n + fresh ≤ 1048577 }
+    requires { n + fresh ≤ max_var + 1 }
     ensures { result ≡ top_after top n fresh }
 {
     if fresh == 0 { top } else { n + fresh - 1 }

@@ -12,7 +12,7 @@ returns-clause-fields c =
     let lt : c.field_len-n.result < length c.args.line.now = omega (arith, c.field_len-n.ensures.fits, c.if-n-line.false) in
     fields_split c.args.line.now c.field_len-n.result lt c.field_len-n.ensures.inside (c.field_len-n.ensures.ends lt)
     ∙ ap (λ (xs : List ℕ). xs ∷ fields_of (drop (c.field_len-n.result + 1) c.args.line.now)) (sym c.front.ensures)
-    ∙ ap (λ (xs : List ℕ). c.front.result.now ∷ fields_of xs) (sym c.skip.ensures)
+    ∙ ap (λ (xs : List ℕ). c.front.result.now ∷ fields_of xs) (sym c.skip.ensures.value)
 
 pub returns-then-n-line-clause-space : goal.returns-then-n-line-clause-space
 returns-then-n-line-clause-space c = space_none c.args.line.now (λ k lt. c.field_len-n.ensures.inside k (omega (arith, lt, c.if-n-line.true)))
@@ -22,4 +22,4 @@ returns-clause-space c =
     let lt : c.field_len-n.result < length c.args.line.now = omega (arith, c.field_len-n.ensures.fits, c.if-n-line.false) in
     space_split c.args.line.now c.field_len-n.result lt c.field_len-n.ensures.inside (c.field_len-n.ensures.ends lt)
     ∙ ap (λ (xs : List ℕ). parts xs (drop (c.field_len-n.result + 1) c.args.line.now)) (sym c.front.ensures)
-    ∙ ap (λ (xs : List ℕ). parts c.front.result.now xs) (sym c.skip.ensures)
+    ∙ ap (λ (xs : List ℕ). parts c.front.result.now xs) (sym c.skip.ensures.value)

@@ -8,4 +8,4 @@ pub invariant_of-self-2 : goal.invariant_of-self-2
 invariant_of-self-2 c =
     let n = ap (λ (p : Parts). length p.nodes) c.in_ok-edge.ensures.ok.nodes in
     let l = and_in-longer c.self.inside.circuit.parts.nodes c.edge-a.result c.edge-b.result in
-    All-weaker (λ e. e / 2 ≤ length c.self.inside.circuit.parts.nodes) (λ e. e / 2 ≤ length c.and.new.self.parts.nodes) (λ e h. omega (arith, n, l, h)) c.self.inside.edges.items c.self.invariant
+    All-weaker (λ e. e / 2 ≤ length c.self.inside.circuit.parts.nodes) (λ e. e / 2 ≤ length c.and.new.self.parts.nodes) (λ e h. omega (arith, n, l, h)) c.self.inside.edges c.self.invariant
