@@ -1,7 +1,9 @@
 mod bench;
+mod costs;
 
 use crate::laws::more_clauses_keep_reasons;
 use bench::{Bench, lits};
+use costs::costs_three_twice;
 use gi_lit::Lit;
 use gi_store::{NewGuard, Store};
 use std::alloc::{AllocError, Global};
@@ -117,6 +119,12 @@ const NESTED: [(&str, &[i32], &[i32]); 6] = [
 #[test]
 fn second_scope_goes_on_from_the_first(rt: HostRuntime) -> Result<(), Fail> {
     assert_eq!(rt; first_wrong(rt.alloc(), &LONG, &NESTED)?, None);
+    Ok(())
+}
+
+#[test]
+fn test_costs_what_it_adds(rt: HostRuntime) -> Result<(), Fail> {
+    assert!(rt; costs_three_twice(rt.alloc())?);
     Ok(())
 }
 
