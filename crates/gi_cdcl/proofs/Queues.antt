@@ -6,7 +6,7 @@ use Rattle.std.proofs.lemmas.List.{get_or_default}
 use Rattle.std.proofs.lemmas.List.Sorted.{IsPermutation-remove, Contains-permutation}
 use Rattle.std.proofs.lemmas.Option.{slice_get_within, get_or_from_slice_get}
 use Rattle.gi_lit.proofs.Distinct.{Contains-tail, Contains-cons_cases}
-use Rattle.gi_chains.specs.Lists.{Lists, items_at, StandsAt, IsFree, IsApart, with_list, grown}
+use Rattle.gi_chains.specs.Lists.{Lists, items_at, StandsAt, IsFree, IsApart, with_list, with_word, grown}
 use Rattle.gi_cdcl.specs.Queue.{IsQueue, IsLinkedFrom}
 use Rattle.gi_cdcl.proofs.Lists.{Contains-nil, Contains-head}
 
@@ -36,6 +36,18 @@ moved c new n k h lt after apart =
       small = h.small;
       few = let a : length new.lists ≡ length c.lists = ap (λ (x : Lists). length x.lists) e ∙ length-set c.lists 0 (k ∷ remove (items_at c.lists 0) q.0) in let b = h.few in omega (arith, a, b);
       each = λ j lj. subst (λ (xs : List ℕ). Contains xs j) (sym is) (Contains-permutation (items_at c.lists 0) (k ∷ remove (items_at c.lists 0) q.0) j (IsPermutation-remove (items_at c.lists 0) q.0 k q.1 (sym q.2)) (h.each j lj));
+      apart = apart;
+    }
+
+-- the word of a node says nothing of the list
+pub worded : (c new : Lists) (n k word : ℕ) → IsQueue c n → new ≡ with_word c k word → IsApart new → IsQueue new n
+worded c new n k word h e apart =
+    let same : new.lists ≡ c.lists = ap (λ (x : Lists). x.lists) e in
+    record {
+      nodes = ap (λ (x : Lists). x.nodes) e ∙ h.nodes;
+      small = h.small;
+      few = subst (λ (ls : List (List ℕ)). length ls ≤ 1) (sym same) h.few;
+      each = λ j lj. subst (λ (ls : List (List ℕ)). Contains (items_at ls 0) j) (sym same) (h.each j lj);
       apart = apart;
     }
 

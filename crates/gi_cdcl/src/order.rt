@@ -8,7 +8,7 @@ const BATCH: u32 = 32;
 /// A variable of the batch's clauses: in how many of them it stands, its stamp, and its place among all variables.
 #[derive(Clone, Copy, PartialEq, Eq, PartialOrd, Ord)]
 struct Bumped {
-    count: u8,
+    count: u32,
     stamp: u32,
     at: u32,
 }
@@ -20,15 +20,14 @@ struct Bumped {
 #[derive(Drop)]
 pub(crate) struct Order {
     list: VarList,
-    stamps: Vec<u32>,
     phases: Vec<bool>,
     /// The last stamp.
     clock: u32,
     /// Where to look for the next decision, by place; None behind the last variable.
     cursor: Option<u32>,
-    /// In how many clauses of the present batch each variable stands.
-    counts: Vec<u8>,
-    /// The variables that stand in one, each once.
+    /// The places of the variables of the present batch's clauses, one after the other.
+    met: Vec<u32>,
+    /// The batch's variables, each once, while they are ranked.
     bumped: Vec<Bumped>,
     /// How many clauses the present batch has.
     clauses: u32,
@@ -39,11 +38,10 @@ impl Order {
     pub(crate) fn new(alloc: Global) -> Order {
         Order {
             list: VarList::new(alloc),
-            stamps: Vec::new(alloc),
             phases: Vec::new(alloc),
             clock: 0,
             cursor: None,
-            counts: Vec::new(alloc),
+            met: Vec::new(alloc),
             bumped: Vec::new(alloc),
             clauses: 0,
         }
@@ -51,15 +49,11 @@ impl Order {
 
     /// Makes the count of variables at least n. The new ones stand in front, the least first, with false as their last value.
     pub(crate) fn grow(&mut self, n: u32) -> Result<(), AllocError> {
-        let more = (n as usize).saturating_sub(self.stamps.len());
-        self.stamps.reserve(more)?;
+        let more = (n as usize).saturating_sub(self.phases.len());
         self.phases.reserve(more)?;
-        self.counts.reserve(more)?;
         self.list.grow(n)?;
         for _i in 0..more {
-            self.stamps.push(0)?;
             self.phases.push(false)?;
-            self.counts.push(0)?;
         }
         if more > 0 {
             self.restamp();
@@ -74,9 +68,7 @@ impl Order {
         let mut at = self.list.first();
         for _i in 0..self.list.len() {
             if let Some(v) = at {
-                if let Some(place) = self.stamps.get_mut(v as usize) {
-                    *place = stamp;
-                }
+                self.list.set_stamp(v, stamp);
                 stamp = stamp.saturating_sub(1);
                 at = self.list.next(v);
             }
@@ -117,9 +109,10 @@ impl Order {
 
     /// The stamp of the variable at a place; 0 where there is none.
     fn stamp(&self, at: u32) -> u32 {
-        match self.stamps.get(at as usize) {
-            Some(stamp) => *stamp,
-            None => 0,
+        if at < self.list.len() {
+            self.list.stamp(at)
+        } else {
+            0
         }
     }
 
@@ -142,46 +135,44 @@ impl Order {
     /// first, so that those of the most come to stand in front, and of equal ones in the order in which they stand.
     pub(crate) fn bump(&mut self, clause: &[Lit]) -> Result<(), AllocError> {
         for l in clause {
-            self.count(l.var().index() - 1)?;
+            self.met.push(l.var().index() - 1)?;
         }
         self.clauses = self.clauses.saturating_add(1);
         if self.clauses >= BATCH {
             self.clauses = 0;
-            self.rank_bumped();
+            self.rank_met()?;
             self.move_bumped();
             self.rewind();
         }
         Ok(())
     }
 
-    /// One clause more of the present batch has the variable at a place.
-    fn count(&mut self, at: u32) -> Result<(), AllocError> {
-        if let Some(count) = self.counts.get_mut(at as usize) {
-            let is_first = *count == 0;
-            *count = count.saturating_add(1);
-            if is_first {
-                self.bumped.push(Bumped {
-                    count: 0,
-                    stamp: 0,
-                    at,
-                })?;
+    /// Counts how often each variable of the batch's clauses was met, and sorts them by counts and stamps.
+    fn rank_met(&mut self) -> Result<(), AllocError> {
+        self.met.sort_unstable();
+        let mut count: u32 = 0;
+        for i in 0..self.met.len() {
+            if let Some(at) = self.met.get(i) {
+                let at = *at;
+                count = count.saturating_add(1);
+                if self.is_last_of(at, i) {
+                    let stamp = self.stamp(at);
+                    self.bumped.push(Bumped { count, stamp, at })?;
+                    count = 0;
+                }
             }
         }
+        self.met.clear();
+        self.bumped.sort_unstable();
         Ok(())
     }
 
-    /// Notes counts and stamps of the batch's variables, and sorts by them.
-    fn rank_bumped(&mut self) {
-        for bumped in self.bumped.iter_mut() {
-            if let Some(count) = self.counts.get_mut(bumped.at as usize) {
-                bumped.count = *count;
-                *count = 0;
-            }
-            if let Some(stamp) = self.stamps.get(bumped.at as usize) {
-                bumped.stamp = *stamp;
-            }
+    /// Whether no entry behind a place is this variable's, where equal ones stand together.
+    fn is_last_of(&self, at: u32, i: usize) -> bool {
+        match self.met.get(i.saturating_add(1)) {
+            Some(next) => *next != at,
+            None => true,
         }
-        self.bumped.sort_unstable();
     }
 
     /// Moves the batch's variables to the front, one after the other.
@@ -206,8 +197,6 @@ impl Order {
             return;
         }
         self.clock += 1;
-        if let Some(stamp) = self.stamps.get_mut(at as usize) {
-            *stamp = self.clock;
-        }
+        self.list.set_stamp(at, self.clock);
     }
 }

@@ -6,7 +6,7 @@ use gi_chains::Chains;
 use std::alloc::{AllocError, Global};
 use std::marker::Model;
 
-/// All variables in one list, each once. A variable goes by its place, from 0; contracts see how many there are.
+/// All variables in one list, each once, with a stamp beside each. A variable goes by its place, from 0; contracts see how many there are.
 #[derive(Drop)]
 pub(crate) struct VarList {
     chains: Chains,
@@ -78,6 +78,21 @@ impl VarList {
             Some(node) => Some(node as u32),
             None => None,
         }
+    }
+
+    /// The stamp of a variable, 0 at first.
+    pub(crate) fn stamp(&self, v: u32) -> u32
+        requires { v < self.now }
+    {
+        self.chains.word(u64::from(v))
+    }
+
+    /// Gives a variable another stamp.
+    pub(crate) fn set_stamp(&mut self, v: u32, stamp: u32)
+        requires { v < self.old }
+        ensures { self.new ≡ self.old }
+    {
+        self.chains.set_word(u64::from(v), stamp);
     }
 
     /// Makes a variable the first.
