@@ -8,12 +8,13 @@ use Rattle.gi_cdcl.specs.Touched.{IsTouched, IsBlank}
 use Rattle.gi_cdcl.proofs.Lists.{Contains-nil}
 use Rattle.gi_cdcl.proofs.Counts.{marked-le, marked-set, marked_blank}
 
-pub touched_none : (flags : List Bool) (capacity : ℕ) → IsBlank flags → length flags ≤ capacity → IsTouched flags [] capacity
-touched_none flags capacity b le = record {
+pub touched_none : (flags : List Bool) (capacity : ℕ) → IsBlank flags → length flags ≤ capacity → length flags ≤ 4294967295 → IsTouched flags [] capacity
+touched_none flags capacity b le few = record {
   all = λ k e. absurd (false≢true (sym (b k) ∙ e));
   only = λ k c. absurd (Contains-nil k c);
   count = sym (marked_blank flags b (length flags));
   room = le;
+  few = few;
 }
 
 pub flag_within : (bs : List Bool) (k : ℕ) → get_or bs k false ≡ true → k < length bs
@@ -43,6 +44,7 @@ module _ (flags : List Bool) (touched : List ℕ) (capacity p : ℕ) (h : IsTouc
     ];
     count = rw (length-set flags p true) (omega (arith, one_more, h.count, length-append touched (p ∷ [])));
     room = rw (length-set flags p true) h.room;
+    few = rw (length-set flags p true) h.few;
   }
 
 -- marks were taken away, so far those of these places

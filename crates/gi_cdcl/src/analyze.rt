@@ -130,7 +130,7 @@ fn last_of(last: Option<usize>, place: usize) -> usize
 fn build(
     alloc: Global,
     lits: &[Lit],
-    touched: &[usize],
+    touched: &[u32],
     start: usize,
     top: usize,
 ) -> Result<(Lits, Option<usize>), AllocError>
@@ -142,7 +142,7 @@ fn build(
     clause.push(negation(lits, top))?;
     let mut last = None;
     for place in touched {
-        let place = *place;
+        let place = *place as usize;
         if place < start {
             clause.push(negation(lits, place))?;
             last = Some(last_of(last, place));

@@ -4,11 +4,14 @@ ghost use Rattle.gi_cdcl.specs.Touched.{IsTouched, IsBlank, AreMarked};
 use std::alloc::{AllocError, Global};
 use std::marker::Model;
 
+/// The most places: the number of each fits a word of 32 bits.
+const MAX_PLACES: usize = 4_294_967_295;
+
 /// Marks on the places of a trail, used by one conflict after the other. Contracts see a flag for each place.
 #[derive(Drop)]
 pub(crate) struct Seen {
     flags: Vec<bool>,
-    touched: Vec<usize>,
+    touched: Vec<u32>,
 }
 
 impl Model for Seen {
@@ -33,11 +36,15 @@ impl Seen {
         }
     }
 
-    /// Takes all marks away, and makes room for n places. Takes time in the number of marks, and memory only for more places than ever before.
+    /// Takes all marks away, and makes room for n places. Takes time in the number of marks, and memory only for more places than ever before. More
+    /// than 2^32 - 1 places count as want of memory.
     pub(crate) fn start_over(&mut self, n: usize) -> Result<(), AllocError>
-        ensures blank { IsBlank self.new }
+        ensures blank { OnOk result (IsBlank self.new) }
         ensures room { OnOk result (n ≤ length self.new) }
     {
+        if n > MAX_PLACES {
+            return Err(AllocError);
+        }
         unmark(&mut self.flags, self.touched.as_slice());
         self.touched.clear();
         let more = n.saturating_sub(self.flags.len());
@@ -62,11 +69,11 @@ impl Seen {
         ensures { self.new ≡ slice_set self.old place true }
     {
         self.flags[place] = true;
-        self.touched.push_reserved(place);
+        self.touched.push_reserved(place as u32);
     }
 
     /// The marked places, in the order in which they were marked.
-    pub(crate) fn touched(&self) -> &[usize]
+    pub(crate) fn touched(&self) -> &[u32]
         ensures { AreMarked self.now result.now }
     {
         let _ = &self.flags;
@@ -75,13 +82,13 @@ impl Seen {
 }
 
 /// Takes the marks of these places away.
-fn unmark(flags: &mut Vec<bool>, touched: &[usize])
+fn unmark(flags: &mut Vec<bool>, touched: &[u32])
     requires { AreMarked flags.old.items touched.now }
     ensures blank { IsBlank flags.new.items }
     ensures len { length flags.new.items ≡ length flags.old.items }
 {
     for place in touched {
-        flags[*place] = false;
+        flags[*place as usize] = false;
     }
 }
 
