@@ -3,18 +3,18 @@ use Rattle.std.proofs.Common.{◌≡◌, ◌≢◌, ℕ, ◌+◌, ◌/◌, ◌<�
 use Rattle.std.specs.List.{All, Contains}
 use Rattle.std.proofs.lemmas.Bool.{cases_lt, cases_eq, false≢true}
 use Rattle.std.proofs.lemmas.List.{get_or-take, get_or_default, get_or_append_left, get_or_push, take_all, take_more, get_or_read, take-append-le, length-set, get_or-set_same, take-take, length-take, length-take-le}
-use Rattle.std.proofs.lemmas.List.Elements.{Contains-append_left, Contains-push, Contains-push_cases, All-contains, Contains-get_or}
+use Rattle.std.proofs.lemmas.List.Elements.{All-take, Contains-append_left, Contains-push, Contains-push_cases, All-contains, Contains-get_or}
 use Rattle.gi_lit.specs.Literals.{opposite}
 use Rattle.gi_lit.specs.Lists.{IsSublist}
 use Rattle.gi_lit.specs.Closure.{Forces, IsConsistent}
 use Rattle.gi_lit.proofs.Literals.{var-opposite}
 use Rattle.gi_lit.proofs.Closure.{IsDerivation-push}
 use Rattle.gi_store.specs.Held.{Held, Holds}
-use Rattle.gi_prop.specs.Assigned.{Assigned, StandsAt, IsTrail, with_lit, with_level, cut_at}
+use Rattle.gi_prop.specs.Assigned.{Assigned, HasValue, StandsAt, IsTrail, with_lit, with_level, cut_at}
 use Rattle.gi_cdcl.specs.Sound.{stored}
 use Rattle.gi_cdcl.specs.Marks.{Marks}
-use Rattle.gi_cdcl.specs.Assumed.{IsLed, LeadsFrom}
-use Rattle.gi_cdcl.proofs.Lists.{Contains-take}
+use Rattle.gi_cdcl.specs.Assumed.{IsTurn, IsLed, LeadsFrom}
+use Rattle.gi_cdcl.proofs.Lists.{Contains-take, front_contains}
 use Rattle.gi_cdcl.proofs.Marking.{IsSeen}
 use Rattle.gi_cdcl.proofs.Resolving.{false_at, stands_at}
 use Rattle.gi_cdcl.proofs.Uip.{holds_stored}
@@ -98,7 +98,7 @@ pub decisions_assumed : (t : Assigned) (assumed : List ℕ) (failed : ℕ) → I
 decisions_assumed t assumed failed c led a f k h =
     let e : get_or t.marks h.0 0 ≡ k = get_or_default t.marks h.0 0 k h.1 ∙ h.2 in
     elim (led.each h.0 h.1) [
-      | inl known ↦ rw e at known
+      | inl w ↦ subst (Contains assumed) (sym w.is ∙ ap (λ n. get_or t.lits n 0) e) (Contains-get_or assumed w.place 0 w.within)
       | inr all ↦ absurd (c.each failed (Contains-take (get_or t.marks h.0 0) t.lits failed (All-contains (Contains (take (get_or t.marks h.0 0) t.lits)) assumed failed all a)) f)
     ]
 
@@ -129,15 +129,55 @@ module _ (assumed lits : List ℕ) (seen : List Bool) (failed i : ℕ) (found : 
     marked = λ k kl q c. elim (cases (get_or lits k 0) c) [ inl old ↦ h.marked k kl q old | inr e ↦ absurd (nm k kl (sym e) q) ];
   }
 
+-- how a level was begun, told of another trail that is the same as far as that
+begins_on : (assumed : List ℕ) (t b : Assigned) (j : ℕ) → get_or b.marks j 0 ≡ get_or t.marks j 0 → get_or b.lits (get_or t.marks j 0) 0 ≡ get_or t.lits (get_or t.marks j 0) 0 → take (get_or t.marks j 0) b.lits ≡ take (get_or t.marks j 0) t.lits
+    → IsTurn assumed (take (get_or t.marks j 0) t.lits) j (get_or t.lits (get_or t.marks j 0) 0) ⊎ All (Contains (take (get_or t.marks j 0) t.lits)) assumed
+    → IsTurn assumed (take (get_or b.marks j 0) b.lits) j (get_or b.lits (get_or b.marks j 0) 0) ⊎ All (Contains (take (get_or b.marks j 0) b.lits)) assumed
+begins_on assumed t b j m l k (inl w) = inl (record {
+  place = w.place;
+  low = w.low;
+  within = w.within;
+  is = ap (λ n. get_or b.lits n 0) m ∙ l ∙ w.is;
+  before = subst (λ (xs : List ℕ). All (Contains xs) (take w.place assumed)) (sym (ap (λ n. take n b.lits) m ∙ k)) w.before;
+})
+begins_on assumed t b j m l k (inr a) = inr (subst (λ (xs : List ℕ). All (Contains xs) assumed) (sym (ap (λ n. take n b.lits) m ∙ k)) a)
+
+-- there are no more levels than assumptions that were passed, where one has no value
+led_low : (assumed : List ℕ) (t : Assigned) → IsLed assumed t → (p : ℕ) → p < length assumed → ¬ Contains t.lits (get_or assumed p 0) → length t.marks ≤ p
+led_low assumed t led p lt free = elim (cases_lt p (length t.marks)) [ inl deep ↦ absurd (go deep (led.each p deep)) | inr le ↦ le ]
+  where
+    up : Contains (take (get_or t.marks p 0) t.lits) (get_or assumed p 0) → ⊥
+    up c = free (Contains-take (get_or t.marks p 0) t.lits (get_or assumed p 0) c)
+
+    go : p < length t.marks → IsTurn assumed (take (get_or t.marks p 0) t.lits) p (get_or t.lits (get_or t.marks p 0) 0) ⊎ All (Contains (take (get_or t.marks p 0) t.lits)) assumed → ⊥
+    go deep (inr all) = up (All-contains (Contains (take (get_or t.marks p 0) t.lits)) assumed (get_or assumed p 0) all (Contains-get_or assumed p 0 lt))
+    go deep (inl w) = elim (cases_eq w.place p) [
+      | inl same ↦ free (subst (Contains t.lits) (w.is ∙ ap (λ n. get_or assumed n 0) same) (Contains-get_or t.lits (get_or t.marks p 0) 0 (led.within p deep)))
+      | inr other ↦ up (All-contains (Contains (take (get_or t.marks p 0) t.lits)) (take w.place assumed) (get_or assumed p 0) w.before (front_contains w.place assumed p (let low = w.low in omega (arith, low, other)) lt))
+    ]
+
+pub next_turn : (assumed : List ℕ) (t : Assigned) → IsLed assumed t → (p l : ℕ) → (p < length assumed) × (l ≡ get_or assumed p 0) → HasValue t.lits l None → All (Contains t.lits) (take p assumed) → IsTurn assumed t.lits (length t.marks) l
+next_turn assumed t led p l w v before = record { place = p; low = led_low assumed t led p w.0 (λ k. v.0 (subst (Contains t.lits) (sym w.1) k)); within = w.0; is = w.1; before = before }
+
+-- as many assumptions were true when a level began as levels were there before
+pub led_front : (assumed : List ℕ) (t : Assigned) → IsLed assumed t → (level m : ℕ) → level < length t.marks → m ≤ level → All (Contains (take (get_or t.marks level 0) t.lits)) (take m assumed)
+led_front assumed t led level m deep le = elim (led.each level deep) [
+  | inl w ↦ subst (All (Contains (take (get_or t.marks level 0) t.lits))) (take-take m w.place assumed (let low = w.low in omega (arith, low, le))) (All-take (Contains (take (get_or t.marks level 0) t.lits)) m (take w.place assumed) w.before)
+  | inr all ↦ All-take (Contains (take (get_or t.marks level 0) t.lits)) m assumed all
+]
+
 module _ (assumed : List ℕ) (t : Assigned) (led : IsLed assumed t) where
   pub IsLed-grows : (h : Held) (b : Assigned) → Grows h t b → IsLed assumed b
   IsLed-grows h b e = record {
     within = λ j lt. let w = led.within j (rw e.marks at lt) in rw (e.marks, e.lits) (omega (arith, w, length-append t.lits e.more_lits));
     strict = λ i j lt jl. rw e.marks (led.strict i j lt (rw e.marks at jl));
-    each = λ j lt. let w = led.within j (rw e.marks at lt) in rw (e.marks, e.lits, get_or_append_left t.lits e.more_lits 0 (get_or t.marks j 0) w, take-append-le (get_or t.marks j 0) t.lits e.more_lits (omega arith)) (led.each j (rw e.marks at lt));
+    each = λ j lt. let w = led.within j (rw e.marks at lt) in begins_on assumed t b j (ap (λ (xs : List ℕ). get_or xs j 0) e.marks)
+        (ap (λ (xs : List ℕ). get_or xs (get_or t.marks j 0) 0) e.lits ∙ get_or_append_left t.lits e.more_lits 0 (get_or t.marks j 0) w)
+        (ap (λ (xs : List ℕ). take (get_or t.marks j 0) xs) e.lits ∙ take-append-le (get_or t.marks j 0) t.lits e.more_lits (omega (arith, w)))
+        (led.each j (rw e.marks at lt));
   }
 
-  module _ (l : ℕ) (why : Contains assumed l ⊎ All (Contains t.lits) assumed) where
+  module _ (l : ℕ) (why : IsTurn assumed t.lits (length t.marks) l ⊎ All (Contains t.lits) assumed) where
     old : (j : ℕ) → j < length t.marks → get_or (t.marks ++ length t.lits ∷ []) j 0 ≡ get_or t.marks j 0
     old j lt = get_or_append_left t.marks (length t.lits ∷ []) 0 j lt
 
@@ -147,13 +187,21 @@ module _ (assumed : List ℕ) (t : Assigned) (led : IsLed assumed t) where
     at_end : (take (length t.lits) (t.lits ++ l ∷ [])) ≡ t.lits
     at_end = take-append-le (length t.lits) t.lits (l ∷ []) (omega arith) ∙ take_all (length t.lits) t.lits (omega arith)
 
-    why_new : Contains assumed (get_or (t.lits ++ l ∷ []) (length t.lits) 0) ⊎ All (Contains (take (length t.lits) (t.lits ++ l ∷ []))) assumed
-    why_new = elim why [ inl a ↦ inl (rw (get_or_push t.lits l 0 (length t.lits) refl) a) | inr a ↦ inr (subst (λ (xs : List ℕ). All (Contains xs) assumed) (sym at_end) a) ]
+    newest : (j : ℕ) → length t.marks ≤ j → j < length (t.marks ++ length t.lits ∷ []) → IsTurn assumed t.lits (length t.marks) l ⊎ All (Contains t.lits) assumed
+        → IsTurn assumed (take (get_or (t.marks ++ length t.lits ∷ []) j 0) (t.lits ++ l ∷ [])) j (get_or (t.lits ++ l ∷ []) (get_or (t.marks ++ length t.lits ∷ []) j 0) 0) ⊎ All (Contains (take (get_or (t.marks ++ length t.lits ∷ []) j 0) (t.lits ++ l ∷ []))) assumed
+    newest j le lt (inl w) = inl (record {
+      place = w.place;
+      low = let low = w.low in omega (arith, low, lt, length-append t.marks (length t.lits ∷ []));
+      within = w.within;
+      is = ap (λ n. get_or (t.lits ++ l ∷ []) n 0) (new j le lt) ∙ get_or_push t.lits l 0 (length t.lits) refl ∙ w.is;
+      before = subst (λ (xs : List ℕ). All (Contains xs) (take w.place assumed)) (sym (ap (λ n. take n (t.lits ++ l ∷ [])) (new j le lt) ∙ at_end)) w.before;
+    })
+    newest j le lt (inr a) = inr (subst (λ (xs : List ℕ). All (Contains xs) assumed) (sym (ap (λ n. take n (t.lits ++ l ∷ [])) (new j le lt) ∙ at_end)) a)
 
-    each' : (j : ℕ) → j < length (t.marks ++ length t.lits ∷ []) → Contains assumed (get_or (t.lits ++ l ∷ []) (get_or (t.marks ++ length t.lits ∷ []) j 0) 0) ⊎ All (Contains (take (get_or (t.marks ++ length t.lits ∷ []) j 0) (t.lits ++ l ∷ []))) assumed
+    each' : (j : ℕ) → j < length (t.marks ++ length t.lits ∷ []) → IsTurn assumed (take (get_or (t.marks ++ length t.lits ∷ []) j 0) (t.lits ++ l ∷ [])) j (get_or (t.lits ++ l ∷ []) (get_or (t.marks ++ length t.lits ∷ []) j 0) 0) ⊎ All (Contains (take (get_or (t.marks ++ length t.lits ∷ []) j 0) (t.lits ++ l ∷ []))) assumed
     each' j lt = elim (cases_lt j (length t.marks)) [
-      | inl below ↦ let w = led.within j below in rw (old j below, get_or_append_left t.lits (l ∷ []) 0 (get_or t.marks j 0) w, take-append-le (get_or t.marks j 0) t.lits (l ∷ []) (omega arith)) (led.each j below)
-      | inr le ↦ rw (new j le lt) why_new
+      | inl below ↦ let w = led.within j below in begins_on assumed t (with_lit l None (with_level t)) j (old j below) (get_or_append_left t.lits (l ∷ []) 0 (get_or t.marks j 0) w) (take-append-le (get_or t.marks j 0) t.lits (l ∷ []) (omega (arith, w))) (led.each j below)
+      | inr le ↦ newest j le lt why
     ]
 
     pub IsLed-decide : IsLed assumed (with_lit l None (with_level t))
@@ -174,7 +222,7 @@ module _ (assumed : List ℕ) (t : Assigned) (led : IsLed assumed t) where
     within = λ j jl. let b = low j jl in rw (marks_at j b, lits_len) (led.strict j level b lt);
     strict = λ i j ij jl. let b = low j jl in let a : i < level = omega arith in rw (marks_at i a, marks_at j b) (led.strict i j ij (omega arith));
     each = λ j jl. let b = low j jl in let m = led.strict j level b lt in
-        rw (marks_at j b, get_or-take (get_or t.marks level 0) t.lits (get_or t.marks j 0) 0 m, take-take (get_or t.marks j 0) (get_or t.marks level 0) t.lits (omega arith)) (led.each j (omega arith));
+        begins_on assumed t (cut_at level t) j (marks_at j b) (get_or-take (get_or t.marks level 0) t.lits (get_or t.marks j 0) 0 m) (take-take (get_or t.marks j 0) (get_or t.marks level 0) t.lits (omega (arith, m))) (led.each j (omega (arith, b, lt)));
   }
     where
       low : (j : ℕ) → j < length (take level t.marks) → j < level

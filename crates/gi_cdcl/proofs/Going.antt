@@ -11,13 +11,13 @@ use Rattle.gi_lit.specs.Problem.{Problem, IsWellFormed}
 use Rattle.gi_lit.specs.Learnt.{IsImplied, IsFresh, IsDerived, AreFresh}
 use Rattle.gi_lit.proofs.Literals.{var-opposite}
 use Rattle.gi_store.specs.Held.{Entry, Held, Holds, IsLive, IsWithin, Keeps, entries, keys_of, problem_of, known_of, with_learnt}
-use Rattle.gi_prop.specs.Assigned.{Assigned, IsTrail, no_lits, with_lit, with_level, cut_at}
+use Rattle.gi_prop.specs.Assigned.{Assigned, IsTrail, with_lit, with_level, cut_at}
 use Rattle.gi_prop.specs.Attached.{Attached, IsAttached, Goes, Attaches, HasSameKeys, AddsForced, AreSettled}
 use Rattle.gi_prop.proofs.Keys.{goes_edit}
 use Rattle.gi_cdcl.specs.Sound.{stored, IsUsed, IsSupported, IsSound}
 use Rattle.gi_cdcl.specs.Uip.{IsUip, IsJump}
 use Rattle.gi_cdcl.specs.Values.{IsPassed}
-use Rattle.gi_cdcl.specs.Assumed.{IsLed}
+use Rattle.gi_cdcl.specs.Assumed.{IsTurn, IsLed}
 use Rattle.gi_lit.specs.Ends.{EndsNonempty}
 use Rattle.gi_cdcl.specs.Ends.{IsFull, IsTaught, AreTaught}
 use Rattle.gi_cdcl.specs.Searching.{AreKnown}
@@ -25,9 +25,9 @@ use Rattle.gi_cdcl.specs.Laws.{LearntClausesStayKnown}
 use Rattle.gi_cdcl.specs.Going.{AreAttached, IsTied, IsReady, HasPassed, IsGoing, HasLearnt}
 use Rattle.gi_cdcl.proofs.Lists.{front_contains}
 use Rattle.gi_cdcl.proofs.Uip.{holds_stored, holds_live, uip_one_high}
-use Rattle.gi_cdcl.proofs.Trails.{Grows, entries_learnt, stored_more_all, IsSound-learnt, IsSound-grows, IsSound-decide, IsSound-cut, IsLeveled-grows, IsLeveled-decide, IsLeveled-jump}
+use Rattle.gi_cdcl.proofs.Trails.{Grows, entries_learnt, stored_more_all, IsSound-learnt, IsSound-grown, IsSound-grows, IsSound-decide, IsSound-cut, IsLeveled-grows, IsLeveled-decide, IsLeveled-jump}
 use Rattle.gi_cdcl.proofs.Fresh.{uip_fresh, empty_fresh, root_conflict, AreFresh-push}
-use Rattle.gi_cdcl.proofs.Assuming.{IsLed-grows, IsLed-decide, IsLed-cut}
+use Rattle.gi_cdcl.proofs.Assuming.{led_front, IsLed-grows, IsLed-decide, IsLed-cut}
 use Rattle.gi_cdcl.proofs.Stores.{used_within, all_used}
 use Rattle.gi_cdcl.proofs.Teaching.{stored_is}
 
@@ -101,7 +101,7 @@ going_grows p q h t b assumed vars lits tr g s gs a =
 
 -- a decision
 module _ (p : Attached) (h : Held) (t : Assigned) (assumed : List ℕ) (v0 l0 : ℕ) (tr : IsTrail t) (g : IsGoing p h t assumed v0 l0) (cl : IsClosed (stored h) t.lits) where
-  decided : (l vars lits : ℕ) → Contains assumed l ⊎ All (Contains t.lits) assumed → HasPassed h t assumed vars lits → Goes p h (with_lit l None (with_level t)) → IsGoing p h (with_lit l None (with_level t)) assumed vars lits
+  decided : (l vars lits : ℕ) → IsTurn assumed t.lits (length t.marks) l ⊎ All (Contains t.lits) assumed → HasPassed h t assumed vars lits → Goes p h (with_lit l None (with_level t)) → IsGoing p h (with_lit l None (with_level t)) assumed vars lits
   decided l vars lits why passed goes = record {
     known = g.known;
     tied = record { attached = record { goes = goes; all = g.tied.attached.all; only = g.tied.attached.only }; room = g.tied.room };
@@ -111,7 +111,7 @@ module _ (p : Attached) (h : Held) (t : Assigned) (assumed : List ℕ) (v0 l0 : 
     passed = passed_more h t (with_lit l None (with_level t)) assumed (l ∷ []) vars lits refl passed;
   }
 
-  pub leads_decided : (b : Assigned) (l vars lits : ℕ) → b ≡ with_lit l None (with_level t) → Contains assumed l ⊎ All (Contains t.lits) assumed → HasPassed h t assumed vars lits → ((p : Attached) (s : Held) → Goes p s t → Goes p s b) → length t.lits < t.vars
+  pub leads_decided : (b : Assigned) (l vars lits : ℕ) → b ≡ with_lit l None (with_level t) → IsTurn assumed t.lits (length t.marks) l ⊎ All (Contains t.lits) assumed → HasPassed h t assumed vars lits → ((p : Attached) (s : Held) → Goes p s t → Goes p s b) → length t.lits < t.vars
       → IsGoing p h b assumed vars lits × (b.vars ≡ t.vars) × (length t.lits < length b.lits) × (length b.lits ≤ b.vars)
   leads_decided b l vars lits e why passed goes room =
       let n : length b.lits ≡ length t.lits + 1 = ap (λ (x : Assigned). length x.lits) e ∙ length-append t.lits (l ∷ []) in
@@ -200,10 +200,10 @@ module _ (h : Held) (w : IsWellFormed (problem_of h)) (f : AreKnown h) (t : Assi
   learnt_nonempty = let o = uip_one_high h t conflict _ false' learnt u in let s = o.stands in omega (arith, s.1)
 
   -- and the jump back
-  pub going_jump : (p q : Attached) (new : Held) (b : Assigned) (at level v0 vars least : ℕ) (assumed : List ℕ) → IsJump t learnt (get_or t.marks (length t.marks - 1) 0) level → new ≡ with_learnt at learnt h → b ≡ cut_at level t → IsTied q new b → IsLed assumed t → IsWithin h.vars assumed
-      → IsPassed h t.lits v0 → vars ≤ v0 → vars ≤ least - 1 → ((k : ℕ) → get_or t.marks level 0 ≤ k → k < length t.lits → least ≤ get_or t.lits k 0 / 2) → IsGoing q new b assumed vars 0
-  going_jump p q new b at level v0 vars least assumed j e eb tied led within before below' gone' lost =
-      subst (λ (x : Held). IsGoing q x b assumed vars 0) (sym e) (subst (λ (y : Assigned). IsGoing q (with_learnt at learnt h) y assumed vars 0) (sym eb) (record {
+  pub going_jump : (p q : Attached) (new : Held) (b : Assigned) (at level v0 vars least lits : ℕ) (assumed : List ℕ) → lits ≤ level → IsJump t learnt (get_or t.marks (length t.marks - 1) 0) level → new ≡ with_learnt at learnt h → b ≡ cut_at level t → IsTied q new b → IsLed assumed t → IsWithin h.vars assumed
+      → IsPassed h t.lits v0 → vars ≤ v0 → vars ≤ least - 1 → ((k : ℕ) → get_or t.marks level 0 ≤ k → k < length t.lits → least ≤ get_or t.lits k 0 / 2) → IsGoing q new b assumed vars lits
+  going_jump p q new b at level v0 vars least lits assumed few j e eb tied led within before below' gone' lost =
+      subst (λ (x : Held). IsGoing q x b assumed vars lits) (sym e) (subst (λ (y : Assigned). IsGoing q (with_learnt at learnt h) y assumed vars lits) (sym eb) (record {
         known = AreKnown-learnt at learnt h f learnt_fresh.0;
         tied = subst (IsTied q (with_learnt at learnt h)) eb (subst (λ (x : Held). IsTied q x b) e tied);
         ready = record {
@@ -212,7 +212,7 @@ module _ (h : Held) (w : IsWellFormed (problem_of h)) (f : AreKnown h) (t : Assi
         };
         led = IsLed-cut assumed t led level j.below;
         within = within;
-        passed = record { vars_are = record { each = λ l u le. passed_cut h w t (get_or t.marks level 0) v0 vars least before below' gone' lost l u le }; lits_are = λ k d lt. absurd (omega arith) };
+        passed = record { vars_are = record { each = λ l u le. passed_cut h w t (get_or t.marks level 0) v0 vars least before below' gone' lost l u le }; lits_are = led_front assumed t led level lits j.below few };
       }))
 
 -- a conflict where nothing was decided
@@ -241,18 +241,17 @@ adds_learnt old new c e lt = let l = last_is old new c e in let n = l.0 in (n, (
 pub adds_refuted : (old new : List (List ℕ)) → new ≡ old ++ [] ∷ [] → (length new ≤ length old + 1) × ((limit : ℕ) → length old < limit → ¬ IsFull limit new)
 adds_refuted old new e = let l = last_is old new [] e in let n = l.0 in (omega (arith, n), λ limit low f. let q = f.1 in let z : 0 < length (get_or new (length new - 1) []) = q.1 in let y : length (get_or new (length new - 1) []) ≡ 0 = ap (λ (xs : List ℕ). length xs) l.1 in omega (arith, z, y))
 
--- the trail is empty
-pub going_start : (p : Attached) (h : Held) (t : Assigned) (assumed : List ℕ) → IsWellFormed (problem_of h) → AreKnown h → AreAttached p h t → t ≡ no_lits t.vars → h.vars ≤ t.vars → IsWithin h.vars assumed → IsGoing p h t assumed 0 0
-going_start p h t assumed w known a e room within =
-    let no_lit : length t.lits ≡ 0 = ap (λ (x : Assigned). length x.lits) e in
-    let no_mark : length t.marks ≡ 0 = ap (λ (x : Assigned). length x.marks) e in
+-- with the root level alone
+pub going_start : (p : Attached) (h : Held) (t b : Assigned) (assumed : List ℕ) → IsWellFormed (problem_of h) → AreKnown h → AreAttached p h t → IsSound h t → t.marks ≡ [] → b ≡ record t { vars = b.vars } → Goes p h b → h.vars ≤ b.vars → IsWithin h.vars assumed → IsGoing p h b assumed 0 0
+going_start p h t b assumed w known a sound root e goes room within =
+    let no_mark : length b.marks ≡ 0 = ap (λ (x : Assigned). length x.marks) e ∙ ap (λ (xs : List ℕ). length xs) root in
     record {
       known = known;
-      tied = record { attached = a; room = room };
-      ready = record { sound = record { each = λ k lt. absurd (omega (arith, lt, no_lit)) }; leveled = record { closed = λ j lt. absurd (omega (arith, lt, no_mark)) } };
+      tied = record { attached = record { goes = goes; all = a.all; only = a.only }; room = room };
+      ready = record { sound = subst (IsSound h) (sym e) (IsSound-grown h t b.vars sound); leveled = record { closed = λ j lt. absurd (omega (arith, lt, no_mark)) } };
       led = record { within = λ j lt. absurd (omega (arith, lt, no_mark)); strict = λ i j ij lt. absurd (omega (arith, lt, no_mark)); each = λ j lt. absurd (omega (arith, lt, no_mark)) };
       within = within;
-      passed = passed_none h t assumed w;
+      passed = passed_none h b assumed w;
     }
 
 news_known : (h : Held) (known news : List (List ℕ)) → AreFresh (problem_of h) known news → All (IsImplied (problem_of h)) known → All (All (IsUsed h)) known → All (IsImplied (problem_of h)) (known ++ news) × All (All (IsUsed h)) (known ++ news)

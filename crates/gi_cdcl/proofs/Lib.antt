@@ -16,3 +16,4 @@ mod Empties
 mod Stepping
 mod Touching
 mod Queues
+mod Rooted

@@ -63,6 +63,14 @@ IsSound-learnt h t s key c = record { each = λ k lt. go k (get_or t.reasons k N
     go k None u = u
     go k (Some r) u = (u.0, holds_more key c h r u.0 u.1, u.2)
 
+-- with room for more variables
+pub IsSound-grown : (h : Held) (t : Assigned) (n : ℕ) → IsSound h t → IsSound h (record t { vars = n })
+IsSound-grown h t n s = record { each = λ k lt. go k (get_or t.reasons k None) (s.each k lt) }
+  where
+    go : (k : ℕ) (o : Option ℕ) → IsSupported h t k o → IsSupported h (record t { vars = n }) k o
+    go k None u = u
+    go k (Some r) u = u
+
 module _ (h : Held) (t : Assigned) (tr : IsTrail t) (s : IsSound h t) where
   -- with forced literals behind
   pub IsSound-grows : (b : Assigned) → Grows h t b → IsSound h b

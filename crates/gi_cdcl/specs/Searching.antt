@@ -1,19 +1,20 @@
 -- What contracts see of a search between its slices.
-use Rattle.std.specs.Prelude.{ℕ, All}
+use Rattle.std.specs.Prelude.{ℕ, ◌<◌, length, All}
 use Rattle.gi_lit.specs.Learnt.{IsImplied}
 use Rattle.gi_store.specs.Held.{Held, IsLive, problem_of, known_of}
-use Rattle.gi_prop.specs.Assigned.{no_lits}
-use Rattle.gi_prop.specs.Attached.{Attached, IsAttached, Goes}
+use Rattle.gi_prop.specs.Assigned.{Assigned}
+use Rattle.gi_prop.specs.Attached.{Attached, IsAttached, IsForcedAt, Goes}
 use Rattle.gi_cdcl.specs.Sound.{IsUsed}
 
--- its attached keys, and how many variables its trail has room for; between calls its trail is empty
+-- its attached keys, and its trail; between calls that has the root level alone: what the clauses force where nothing is decided, as far as it was found
 pub record Searching : Type 0 where
   pub attached : Attached
-  pub vars : ℕ
+  pub root : Assigned
 
--- each attached key has a clause in the store, of variables that the search has room for
-abbrev pub GoesWith : Searching → Held → Type 0
-GoesWith s h = Goes s.attached h (no_lits s.vars)
+-- each attached key has a clause in the store, of variables that the search has room for, and such a clause forced each literal of the root
+pub record GoesWith (s : Searching) (h : Held) : Type 0 where
+  pub goes : Goes s.attached h s.root
+  pub forced : (k : ℕ) → k < length s.root.lits → IsForcedAt s.attached h s.root k
 
 -- exactly the store's clauses are attached
 pub record HasAll (s : Searching) (h : Held) : Type 0 where

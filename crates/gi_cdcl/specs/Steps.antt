@@ -5,6 +5,7 @@ use Rattle.gi_prop.specs.Assigned.{Assigned}
 use Rattle.gi_prop.specs.Attached.{Attached}
 use Rattle.gi_lit.specs.Ends.{EndsNonempty, IsModel, IsFailing}
 use Rattle.gi_cdcl.specs.Ends.{IsFull}
+use Rattle.gi_cdcl.specs.Sound.{IsSound}
 use Rattle.gi_cdcl.specs.Going.{IsTied, IsGoing}
 use Rattle.gi_cdcl.specs.declared.step.Step.{Step}
 use Rattle.gi_cdcl.specs.declared.step.Step.TheVariants.{Decided, Learnt, Refuted, Sat, Failed}
@@ -29,6 +30,6 @@ FindsEmpty old new (Failed w) = ⊥
 abbrev pub LeadsTo : Assigned → Attached → Held → Assigned → List ℕ → ℕ → ℕ → Step → Type 0
 LeadsTo before p h t assumed vars lits Decided = IsGoing p h t assumed vars lits × (t.vars ≡ before.vars) × (length before.lits < length t.lits) × (length t.lits ≤ t.vars)
 LeadsTo before p h t assumed vars lits Learnt = IsGoing p h t assumed vars lits × (t.vars ≡ before.vars)
-LeadsTo before p h t assumed vars lits Refuted = IsTied p h t × IsFailing (problem_of h) assumed (known_of h) []
-LeadsTo before p h t assumed vars lits (Sat values) = IsTied p h t × IsModel (problem_of h) assumed values
-LeadsTo before p h t assumed vars lits (Failed w) = IsTied p h t × IsFailing (problem_of h) assumed (known_of h) w
+LeadsTo before p h t assumed vars lits Refuted = IsTied p h t × IsSound h t × IsFailing (problem_of h) assumed (known_of h) []
+LeadsTo before p h t assumed vars lits (Sat values) = IsTied p h t × IsSound h t × IsModel (problem_of h) assumed values
+LeadsTo before p h t assumed vars lits (Failed w) = IsTied p h t × IsSound h t × IsFailing (problem_of h) assumed (known_of h) w

@@ -5,7 +5,7 @@ ghost use Rattle.gi_lit.specs.Closure.{Conflicts};
 ghost use Rattle.gi_store.specs.Held.{IsWithin};
 ghost use Rattle.gi_prop.specs.Assigned.{IsTrail};
 ghost use Rattle.gi_cdcl.specs.Sound.{stored, IsSound};
-ghost use Rattle.gi_cdcl.specs.Assumed.{IsNext, IsLed, LeadsFrom};
+ghost use Rattle.gi_cdcl.specs.Assumed.{IsNext, IsPlaced, IsLed, LeadsFrom};
 ghost use Rattle.gi_cdcl.specs.Touched.{IsBlank};
 
 use crate::analyze::{mark_seen, reason_at};
@@ -30,6 +30,7 @@ pub(crate) fn next_assumption(trail: &Trail, assumed: &[Lit], passed: &mut usize
     requires within { IsWithin trail.now.vars assumed.now }
     requires passed { All (Contains trail.now.lits) (take passed.old assumed.now) }
     ensures next { IsNext trail.now.lits assumed.now result }
+    ensures place { IsPlaced assumed.now passed.new result }
     ensures passed { All (Contains trail.now.lits) (take passed.new assumed.now) }
 {
     while *passed < assumed.len() {

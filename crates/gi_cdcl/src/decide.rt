@@ -1,7 +1,7 @@
 ghost use Rattle.std.specs.Prelude.{◌≡◌, ℕ, ◌+◌, ◌*◌, ◌/◌, ◌<◌, ◌≤◌, ◌⊎◌, length, Contains, IfOk, IfSome, IfNone, OnOk, None, slice_index};
 ghost use Rattle.gi_lit.specs.Literals.{max_var, opposite};
 ghost use Rattle.gi_store.specs.Held.{Held};
-ghost use Rattle.gi_prop.specs.Assigned.{HasValue, IsTrail, with_lit, with_level};
+ghost use Rattle.gi_prop.specs.Assigned.{HasValue, IsTrail, no_lits, with_lit, with_level, cancelled};
 ghost use Rattle.gi_prop.specs.Attached.{Attached, Goes};
 ghost use Rattle.gi_cdcl.specs.Sound.{IsUsed};
 ghost use Rattle.gi_cdcl.specs.Values.{AllAssigned, IsPassed, IsValueOf, IsAssignment};
@@ -146,6 +146,27 @@ pub(crate) fn assignment(alloc: Global, trail: &Trail, n: u32) -> Result<Assign,
         values.push(is_true(trail, place))?;
     }
     Ok(Assign::from_vec(values))
+}
+
+/// Goes back to the root level, and gives the variables back to the order whose literals stood above it.
+pub(crate) fn back_to_root(order: &mut Order, trail: &mut Trail)
+    ensures after { trail.new ≡ cancelled 0 trail.old }
+    ensures goes { (p : Attached) (s : Held) → Goes p s trail.old → Goes p s trail.new }
+{
+    if trail.level() > 0 {
+        let start = trail.start_of(0);
+        give_back(order, trail, start);
+    }
+    trail.cancel_to(0);
+}
+
+/// Forgets what is true, and gives all variables back to the order.
+pub(crate) fn forget(order: &mut Order, trail: &mut Trail)
+    ensures after { trail.new ≡ no_lits trail.old.vars }
+    ensures goes { (p : Attached) (s : Held) → Goes p s trail.old → Goes p s trail.new }
+{
+    give_back(order, trail, 0);
+    trail.clear();
 }
 
 /// Gives the variables back to the order whose literals stand from a place on, and a number that none of these variables is below.

@@ -55,6 +55,13 @@ fn still_passed(passed: u32, least: u32) -> u32
     passed.min(least.saturating_sub(1))
 }
 
+/// How many of the assumptions that were passed are known to be true still where so many levels are left: one for each.
+fn still_true(passed: usize, level: u32) -> usize
+    ensures { result ≤ level }
+{
+    passed.min(level as usize)
+}
+
 /// Learns what a conflict above level 0 teaches, and goes back to the least level at which all its literals but one are false.
 fn learn(
     engine: &mut Engine,
@@ -87,7 +94,7 @@ fn learn(
     let least = give_back(&mut engine.order, &engine.trail, start);
     engine.trail.cancel_to(learnt.level);
     engine.vars_passed = still_passed(engine.vars_passed, least);
-    engine.assumed_passed = 0;
+    engine.assumed_passed = still_true(engine.assumed_passed, learnt.level);
     add_clause(&mut engine.prop, &engine.trail, store, learnt.clause, news)?;
     Ok(())
 }

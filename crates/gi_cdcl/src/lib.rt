@@ -7,8 +7,8 @@
 //!
 //! Assumptions are decided first. One that is false ends the search; its analysis goes back to the assumptions that fail together.
 //! Then variables are decided by a move-to-front queue (VMTF): the variables of learnt clauses move to the front, 32 clauses at a time, and the
-//! first that has no value is decided, with the value that it had last (phase saving). Each slice begins with an empty trail, which is a restart; the caller
-//! gives slices their lengths.
+//! first that has no value is decided, with the value that it had last (phase saving). Each slice begins with the root level alone, which is a restart, and
+//! that level is kept from slice to slice; the caller gives slices their lengths.
 #![tactic(auto)]
 
 mod analyze;

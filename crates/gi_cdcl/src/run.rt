@@ -1,11 +1,10 @@
 ghost use Rattle.std.specs.Prelude.{◌≡◌, ◌≢◌, ◌+◌, ◌<◌, ◌≤◌, ℕ, [], length, Contains, IfOk, OnOk, IsTrue, ◌↔◌};
 ghost use Rattle.gi_store.specs.Held.{IsWithin};
-ghost use Rattle.gi_prop.specs.Assigned.{no_lits};
 ghost use Rattle.gi_cdcl.specs.Searching.{AreKnown};
 ghost use Rattle.gi_cdcl.specs.Going.{AreAttached, IsGoing, HasLearnt};
 ghost use Rattle.gi_cdcl.specs.Finish.{Finishes};
 ghost use Rattle.gi_cdcl.specs.declared.slice.Slice.TheVariants.{Braked, NoMemory};
-ghost use Rattle.gi_cdcl.specs.Sound.{stored};
+ghost use Rattle.gi_cdcl.specs.Sound.{stored, IsSound};
 
 use crate::brake::Brake;
 use crate::engine::{Bounds, Engine, Progress};
@@ -51,6 +50,7 @@ fn run<B: Brake>(
     ensures asks { OnOk result (length progress.new.news.items < B.asks brake.new) }
     ensures asks_root { IfOk result (λ end. end ≢ Braked → Contains (stored store.old) [] → length progress.new.news.items + 1 < B.asks brake.new) }
     ensures attached { OnOk result (AreAttached engine.new.prop store.new engine.new.trail) }
+    ensures sound { OnOk result (IsSound store.new engine.new.trail) }
 {
     'steps: loop {
         match take_step(engine, store, assumed, &mut progress.news)? {
@@ -88,7 +88,8 @@ fn begin<B: Brake>(
     requires assumed { IsWithin store.old.vars assumed.now }
     requires known { AreKnown store.old }
     requires attached { AreAttached engine.old.prop store.old engine.old.trail }
-    requires empty { engine.old.trail ≡ no_lits engine.old.trail.vars }
+    requires sound { IsSound store.old engine.old.trail }
+    requires root { engine.old.trail.marks ≡ [] }
     requires news { progress.old.news.items ≡ [] }
     requires mark { (progress.old.mark ≡ B.top brake.old) × (progress.old.mark < bounds.serial) }
     requires asks { B.asks brake.old ≡ 1 }
@@ -100,6 +101,7 @@ fn begin<B: Brake>(
     ensures asks { OnOk result (length progress.new.news.items < B.asks brake.new) }
     ensures asks_root { IfOk result (λ end. end ≢ Braked → Contains (stored store.old) [] → length progress.new.news.items + 1 < B.asks brake.new) }
     ensures attached { OnOk result (AreAttached engine.new.prop store.new engine.new.trail) }
+    ensures sound { OnOk result (IsSound store.new engine.new.trail) }
 {
     let vars = store.vars();
     engine.trail.grow(vars)?;
@@ -123,7 +125,8 @@ pub(crate) fn start<B: Brake>(
     requires assumed { IsWithin store.old.vars assumed.now }
     requires known { AreKnown store.old }
     requires attached { AreAttached engine.old.prop store.old engine.old.trail }
-    requires empty { engine.old.trail ≡ no_lits engine.old.trail.vars }
+    requires sound { IsSound store.old engine.old.trail }
+    requires root { engine.old.trail.marks ≡ [] }
     requires news { progress.old.news.items ≡ [] }
     requires mark { progress.old.mark ≡ B.top brake.old }
     requires asks { B.asks brake.old ≡ 0 }
@@ -135,6 +138,7 @@ pub(crate) fn start<B: Brake>(
     ensures asks { result ≢ NoMemory → length progress.new.news.items < B.asks brake.new }
     ensures asks_root { result ≢ NoMemory → result ≢ Braked → Contains (stored store.old) [] → length progress.new.news.items + 1 < B.asks brake.new }
     ensures attached { result ≢ NoMemory → AreAttached engine.new.prop store.new engine.new.trail }
+    ensures sound { result ≢ NoMemory → IsSound store.new engine.new.trail }
 {
     if ask(brake, &mut progress.mark, bounds.serial) {
         return Slice::Braked;

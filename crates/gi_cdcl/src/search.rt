@@ -7,7 +7,7 @@ ghost use Rattle.gi_cdcl.specs.declared.slice.Slice.TheVariants.{Braked, NoMemor
 ghost use Rattle.gi_cdcl.specs.Sound.{stored};
 
 use crate::brake::Brake;
-use crate::decide::give_back;
+use crate::decide::{back_to_root, forget};
 use crate::engine::{Bounds, Engine, Progress};
 use crate::order::Order;
 use crate::run::start;
@@ -19,22 +19,22 @@ use gi_store::{Key, Store};
 use std::alloc::{AllocError, Global};
 use std::marker::Model;
 
-/// A search over the clauses of a store. Contracts see which keys are attached, and with which stores it goes. Between calls its trail is empty.
+/// A search over the clauses of a store. Contracts see which keys are attached, and with which stores it goes. Between calls its trail keeps its root
+/// level: what clauses force where nothing is decided.
 #[derive(Drop)]
 pub struct Search {
     engine: Engine,
 }
 
 impl Model for Search {
-    ghost use Rattle.std.specs.Prelude.{◌≡◌};
-    ghost use Rattle.gi_prop.specs.Assigned.{no_lits};
+    ghost use Rattle.std.specs.Prelude.{◌≡◌, []};
     ghost use Rattle.gi_cdcl.specs.Searching.{Searching};
 
     ghost Value = { Searching };
 
-    ghost view = { λ s. record { attached = s.engine.prop; vars = s.engine.trail.vars } };
+    ghost view = { λ s. record { attached = s.engine.prop; root = s.engine.trail } };
 
-    ghost invariant = { λ s. s.engine.trail ≡ no_lits s.engine.trail.vars };
+    ghost invariant = { λ s. s.engine.trail.marks ≡ [] };
 }
 
 impl Search {
@@ -69,12 +69,13 @@ impl Search {
         self.engine.prop.attach(store, &self.engine.trail, key)
     }
 
-    /// Detaches a key. Takes no memory.
+    /// Detaches a key. Takes no memory. Since its clause may have forced what is true at the root, the root is found anew by the next slice.
     pub fn detach(&mut self, key: Key)
         requires { IsAttached self.old.attached key }
         ensures detached { Detaches key self.old.attached self.new.attached }
         ensures goes { (h : Held) → GoesWith self.old h → GoesWith self.new h }
     {
+        forget(&mut self.engine.order, &mut self.engine.trail);
         self.engine.prop.detach(key);
     }
 
@@ -117,8 +118,8 @@ impl Search {
             brake,
             &mut progress,
         );
-        give_back(&mut self.engine.order, &self.engine.trail, 0);
-        self.engine.trail.clear();
+        let _level = self.engine.trail.level();
+        back_to_root(&mut self.engine.order, &mut self.engine.trail);
         Sliced {
             news: Clauses::from_vec(progress.news),
             mark: progress.mark,

@@ -29,5 +29,5 @@ returns-clause-going c assumed led within passed =
     let j = c.in_ok-learnt.ensures.jump in
     let s = c.in_ok-add_clause.ensures.stored in
     going_jump c.args.store.now c.vars-vars.ensures.whole.well_formed c.requires.known c.args.engine.now.trail c.level-level.ensures.trail c.requires.ready c.requires.deep c.args.conflict q.clause q.held q.falsified c.in_ok-learnt.learnt.clause (c.in_ok-learnt.ensures.uip q.clause q.held)
-    c.args.engine.now.prop c.add_clause.new.prop c.add_clause.new.store c.cancel_to.new.self s.0 c.in_ok-learnt.learnt.level c.args.engine.now.vars_passed c.still_passed-engine.result c.give_back-least.result assumed j s.1 (c.cancel_to.ensures.after ∙ cancelled_is c.in_ok-learnt.learnt.level c.args.engine.now.trail j.below) c.in_ok-add_clause.ensures.tied led within passed c.still_passed-engine.ensures.0 c.still_passed-engine.ensures.1
+    c.args.engine.now.prop c.add_clause.new.prop c.add_clause.new.store c.cancel_to.new.self s.0 c.in_ok-learnt.learnt.level c.args.engine.now.vars_passed c.still_passed-engine.result c.give_back-least.result c.still_true-engine.result assumed c.still_true-engine.ensures j s.1 (c.cancel_to.ensures.after ∙ cancelled_is c.in_ok-learnt.learnt.level c.args.engine.now.trail j.below) c.in_ok-add_clause.ensures.tied led within passed c.still_passed-engine.ensures.0 c.still_passed-engine.ensures.1
     (λ k le lt. c.give_back-least.ensures k (rw c.start_of-start.ensures le) lt)

@@ -4,6 +4,7 @@ use Rattle.gi_cdcl.specs.Sound.{stored}
 use Rattle.gi_lit.specs.Learnt.{IsFresh, IsDerived}
 use Rattle.gi_store.specs.Held.{problem_of, known_of}
 use Rattle.gi_cdcl.proofs.Going.{adds_none, empty_conflicts, empty_is_fresh}
+use Rattle.gi_cdcl.proofs.Rooted.{sound_learnt}
 use Rattle.gi_cdcl.proofs.Ending.{failing_root, failing_learnt}
 use Rattle.gi_cdcl.proofs.learn.refute.Goals as goal
 
@@ -12,7 +13,7 @@ returns-then-has_empty-clause-leads c assumed =
     let h = c.args.store.now in
     let q = c.requires.conflict in
     let d = empty_conflicts h c.requires.known c.args.engine.now.trail c.level-level.ensures.trail c.requires.ready.sound c.requires.root c.args.conflict q.clause q.held q.falsified in
-    (c.requires.tied, failing_root h assumed c.vars-vars.ensures.whole.well_formed c.requires.known d)
+    (c.requires.tied, c.requires.ready.sound, failing_root h assumed c.vars-vars.ensures.whole.well_formed c.requires.known d)
 
 pub returns-then-has_empty-clause-adds : goal.returns-then-has_empty-clause-adds
 returns-then-has_empty-clause-adds c = adds_none c.args.news.now.items c.args.news.now.items refl
@@ -33,4 +34,4 @@ returns-clause-leads c assumed =
     let q = c.requires.conflict in
     let s = c.in_ok-add_clause.ensures.stored in
     let d = empty_conflicts h c.requires.known c.args.engine.now.trail c.level-level.ensures.trail c.requires.ready.sound c.requires.root c.args.conflict q.clause q.held q.falsified in
-    (c.in_ok-add_clause.ensures.tied, failing_learnt h c.add_clause.new.store assumed s.0 c.new-empty.result s.1 (failing_root h assumed c.vars-vars.ensures.whole.well_formed c.requires.known d))
+    (c.in_ok-add_clause.ensures.tied, sound_learnt h c.add_clause.new.store c.args.engine.now.trail s.0 c.new-empty.result s.1 c.requires.ready.sound, failing_learnt h c.add_clause.new.store assumed s.0 c.new-empty.result s.1 (failing_root h assumed c.vars-vars.ensures.whole.well_formed c.requires.known d))

@@ -4,6 +4,7 @@ use Rattle.std.proofs.lemmas.Result.{IfOk-weaker}
 use Rattle.gi_cdcl.specs.Steps.{LeadsTo}
 use Rattle.gi_cdcl.proofs.Stores.{all_within_more}
 use Rattle.gi_cdcl.proofs.Going.{leads_decided, going_passed}
+use Rattle.gi_cdcl.proofs.Assuming.{next_turn}
 use Rattle.gi_cdcl.proofs.Ending.{failing_stored}
 use Rattle.gi_cdcl.proofs.step.decide_next.Goals as goal
 
@@ -13,13 +14,14 @@ analyze_final-requires-clause-within c = all_within_more c.args.store.now c.vars
 pub returns-in_ok-failing-in-Failed-clause-leads : goal.returns-in_ok-failing-in-Failed-clause-leads
 returns-in_ok-failing-in-Failed-clause-leads c = let g = c.requires.going in (
   g.tied,
+  g.ready.sound,
   failing_stored c.args.store.now c.args.assumed.now c.in_ok-failing-in-Failed.failing c.vars-vars.ensures.whole.well_formed g.known g.within c.in_ok-failing-in-Failed.ensures.sublist c.in_ok-failing-in-Failed.ensures.conflicts,
 )
 
 pub returns-in_ok-decide-in-Free-clause-leads : goal.returns-in_ok-decide-in-Free-clause-leads
 returns-in_ok-decide-in-Free-clause-leads c =
     let g = c.requires.going in
-    leads_decided c.args.engine.now.prop c.args.store.now c.args.engine.now.trail c.args.assumed.now c.args.engine.now.vars_passed c.args.engine.now.assumed_passed c.level-level.ensures.trail g c.requires.closed c.decide.new.trail c.in-Free.l c.args.engine.now.vars_passed c.next_assumption.new.passed c.in_ok-decide-in-Free.ensures.ok (inl c.in-Free.ensures.next.0) (record { vars_are = g.passed.vars_are; lits_are = c.in-Free.ensures.passed }) c.decide.ensures.goes c.in_ok-decide-in-Free.ensures.room
+    leads_decided c.args.engine.now.prop c.args.store.now c.args.engine.now.trail c.args.assumed.now c.args.engine.now.vars_passed c.args.engine.now.assumed_passed c.level-level.ensures.trail g c.requires.closed c.decide.new.trail c.in-Free.l c.args.engine.now.vars_passed c.next_assumption.new.passed c.in_ok-decide-in-Free.ensures.ok (inl (next_turn c.args.assumed.now c.args.engine.now.trail g.led c.next_assumption.new.passed c.in-Free.l c.in-Free.ensures.place c.in-Free.ensures.next.1 c.in-Free.ensures.passed)) (record { vars_are = g.passed.vars_are; lits_are = c.in-Free.ensures.passed }) c.decide.ensures.goes c.in_ok-decide-in-Free.ensures.room
 
 pub returns-in-AllTrue-clause-leads : goal.returns-in-AllTrue-clause-leads
 returns-in-AllTrue-clause-leads c =

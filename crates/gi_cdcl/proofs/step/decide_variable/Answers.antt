@@ -11,5 +11,6 @@ returns-in_ok-decide-in-Some-clause-leads c assumed lits g all =
 pub returns-in_ok-values-in-None-clause-leads : goal.returns-in_ok-values-in-None-clause-leads
 returns-in_ok-values-in-None-clause-leads c assumed lits g all = (
   g.tied,
+  g.ready.sound,
   model_stored c.args.store.now c.args.engine.now.trail.lits assumed c.in_ok-values-in-None.values c.vars-vars.ensures.whole g.known g.within all c.requires.closed c.in-None.ensures.full (subst (λ (n : ℕ). IsAssignment n c.args.engine.now.trail.lits c.in_ok-values-in-None.values) c.vars-vars.ensures.value c.in_ok-values-in-None.ensures),
 )

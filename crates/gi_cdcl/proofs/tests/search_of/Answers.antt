@@ -9,6 +9,19 @@ use Rattle.gi_prop.specs.Attached.{IsAttached}
 use Rattle.gi_cdcl.proofs.Empties.{at_some, keys_length}
 use Rattle.gi_cdcl.proofs.tests.search_of.Goals as goal
 
+pub loop-i-init : goal.loop-i-init
+loop-i-init c = record {
+  goes = c.new-search.ensures.goes c.args.store.now;
+  all = λ j lt. absurd (omega (arith, lt));
+  only = λ k a. absurd (c.new-search.ensures.none k a);
+}
+
+pub attach-requires-clause-live : goal.attach-requires-clause-live
+attach-requires-clause-live c =
+    let keys = keys_of c.args.store.now in
+    let r = at_some keys c.loop-i.i c.in-Some.key 0 c.in-Some.ensures in
+    (c.loop-i.i, r.0, get_or_default keys c.loop-i.i c.in-Some.key 0 r.0 ∙ r.1)
+
 pub attach-requires-clause-free : goal.attach-requires-clause-free
 attach-requires-clause-free c a =
     let keys = keys_of c.args.store.now in
