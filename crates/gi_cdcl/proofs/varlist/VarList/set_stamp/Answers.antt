@@ -1,4 +1,4 @@
-use Rattle.std.proofs.Common.{◌≡◌, ◌<◌, arith}
+use Rattle.std.proofs.Common.{arith}
 use Rattle.gi_cdcl.proofs.Queues.{worded}
 use Rattle.gi_cdcl.proofs.varlist.VarList.set_stamp.Goals as goal
 

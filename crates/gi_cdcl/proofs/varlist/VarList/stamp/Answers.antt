@@ -1,4 +1,4 @@
-use Rattle.std.proofs.Common.{◌≡◌, ◌<◌, arith}
+use Rattle.std.proofs.Common.{arith}
 use Rattle.gi_cdcl.proofs.varlist.VarList.stamp.Goals as goal
 
 pub word-requires : goal.word-requires
