@@ -1,5 +1,5 @@
 #!/usr/bin/env bash
-# What the merge gate costs: runs it, and prints for each crate the processor seconds of its proof, of its tests' proofs and of its
+# What the merge gate costs from nothing: runs it with nothing kept, and prints for each crate the processor seconds of its proof, of its tests' proofs and of its
 # edits, then the gate's whole processor time and how long it took. A process is looked at once a second, so up to a second of each
 # is missed. The gate's own output goes to the file that is named, or else to gate.log in a new folder. Linux alone.
 #
@@ -37,7 +37,7 @@ look > "$work/looks" &
 looker=$!
 cd "$top" || exit 1
 TIMEFORMAT='%R %U %S'
-{ time rt ci > "$log" 2>&1; } 2> "$work/time"
+{ time rt ci --anew > "$log" 2>&1; } 2> "$work/time"
 status=$?
 kill "$looker"
 awk -v ticks="$ticks" '
