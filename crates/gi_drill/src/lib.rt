@@ -7,8 +7,6 @@ mod laws;
 mod printing;
 mod script;
 mod tally;
-#[cfg(test)]
-mod tests;
 mod text;
 
 pub use laws::{

@@ -14,6 +14,3 @@ pub use laws::{
     unknown_is_spent,
 };
 pub use solving::solve;
-
-#[cfg(test)]
-mod tests;

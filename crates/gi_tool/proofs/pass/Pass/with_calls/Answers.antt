@@ -1,9 +1,0 @@
-use Rattle.std.proofs.Common.{List, subst, sym}
-use Rattle.gi_tool.specs.Kept.{IsKept}
-use Rattle.gi_tool.specs.Seen.{history_of}
-use Rattle.gi_tool.specs.declared.entry.Entry.{Entry as Noted}
-use Rattle.gi_tool.proofs.Keeping.{kept_opening}
-use Rattle.gi_tool.proofs.pass.Pass.with_calls.Goals as goal
-
-pub invariant_of-result : goal.invariant_of-result
-invariant_of-result c = subst (λ (es : List Noted). IsKept 0 c.new.result (history_of 0 es)) (sym c.new-2.ensures.items) (kept_opening 0 c.new.result c.new.ensures)
