@@ -30,4 +30,4 @@ module _ {T : Type 0} (stands : T → List Entry → Type 0) (may : List Entry �
   entered_phases = knows_phases w w.seen ([], sym (append-nil w.seen)) entered_glances
 
   pub entered_marks : KnowsMarks may w
-  entered_marks = subst (KnowsMarks may) (sym h.view) (h.finds.lawful, λ sole. (h.finds.sole sole).1)
+  entered_marks = subst (KnowsMarks may) (sym h.view) (h.finds.lawful, (λ sole. (h.finds.sole sole).1), (λ sole. (h.finds.sole sole).2))

@@ -11,14 +11,14 @@ use Rattle.atomic_table.proofs.Lists.{set_else}
 use Rattle.gi_turn.specs.declared.view.Entry.{Entry}
 use Rattle.gi_turn.specs.declared.view.View.{View}
 use Rattle.gi_turn.specs.Entries.{At, entry_of, phase_after, AreGlances, head, glance_at}
-use Rattle.gi_turn.specs.Views.{Sole, KnowsPhases, KnowsMarks, IsLawful, AskedBy, first_view, spent_view, after_draw, after_look, with_turn, out_of_turn, after_ask, after_see, after_split, split_off, after_join, after_settle}
+use Rattle.gi_turn.specs.Views.{Sole, KnowsPhases, KnowsMarks, IsLawful, AskedBy, HoldsAll, first_view, spent_view, after_draw, after_look, with_turn, out_of_turn, after_ask, after_see, after_split, split_off, after_join, after_settle}
 use Rattle.gi_turn.specs.Turns.{Fits, Turns}
 use Rattle.gi_turn.specs.Marks.{Marks, MarksOf}
 use Rattle.gi_turn.specs.Rule.{Rule}
 use Rattle.gi_turn.specs.Steps.{Draws, Glances, Looks, Publishes, Asks, Sees, Finds, Settles, glances_after}
 use Rattle.gi_turn.proofs.Views.{here, calls_set, left_alive, left_same, calls_append, has_one, has_none, prefix_length, prefix_prefix, same_view, phase_after-append, knows_phases, at_prefix, lawful_prefix, Change, change_set}
 use Rattle.gi_turn.proofs.Numbers.{own_seen, given, taken, numbers_set, numbers_longer, numbers_split, numbers_join, change_split, change_join}
-use Rattle.gi_turn.proofs.Kinship.{kinship_set, kinship_split, kinship_join, sole_sees, sole_alone}
+use Rattle.gi_turn.proofs.Kinship.{kinship_set, kinship_split, kinship_join, sole_sees, sole_alone, sole_holds}
 use Rattle.gi_turn.proofs.Marks.{marks_set, marks_see, marks_ask, marks_longer, marks_split, marks_join}
 use Rattle.gi_turn.proofs.Turns.{handed, head_length, head_glance, draws_kept, aside, glances_right, turns_kept, at_home, publishes_kept, splits_kept, joins_kept}
 
@@ -164,12 +164,15 @@ module _ {T : Type 0} (stands : T → List Entry → Type 0) (may : List Entry �
       let place : a.0 ≡ id = sole_alone r.log r.owner s.views id v r.numbers r.kinship at sole a.0 a.1 a.1.number a.2 (r.numbers.own a.0 a.1 a.2 alive) in
       (x.0, x.1, subst (λ (y : View). Contains y.asked (e.mark, x.0)) (same_view s.views id a.1 v (subst (λ (j : ℕ). At s.views j a.1) place a.2) at) a.3)
 
+  sole_all : (s : State (Option T) View) (r : Holds s) (id : ℕ) (v : View) → At s.views id v → Sole v → HoldsAll v r.log
+  sole_all s r id v at sole k e there = let x = r.numbers.entries k e there in sole_holds r.log r.owner s.views id v r.numbers r.kinship at sole e.by (x.0, x.1, x.2, x.3)
+
   -- what a seat knows of its glances and of its history's marks, between any two steps
   knows : (s : State (Option T) View) (r : Holds s) (id : ℕ) (v : View) → At s.views id v → v.spent ≡ false → KnowsPhases v × KnowsMarks may v
   knows s r id v at live =
       let fits = r.turns.each id v at in (
         knows_phases v r.log fits.seen (subst (λ (p : ℕ). AreGlances p r.log v.glances) (sym (fits.opened live)) fits.glances),
-        (lawful_prefix may r.log v.seen fits.seen (lawful s r), λ sole k e there ne. sole_asked s r id v at sole k e (at_prefix r.log v.seen k e fits.seen there) ne),
+        (lawful_prefix may r.log v.seen fits.seen (lawful s r), λ sole k e there ne. sole_asked s r id v at sole k e (at_prefix r.log v.seen k e fits.seen there) ne, λ sole k e there. sole_all s r id v at sole k e (at_prefix r.log v.seen k e fits.seen there)),
       )
 
   -- the rule after a look that does not bring the turn
@@ -203,7 +206,7 @@ module _ {T : Type 0} (stands : T → List Entry → Type 0) (may : List Entry �
         own_seen = own_seen r.log r.owner s.views id v r.numbers at;
         lawful = lawful s r;
         named = let is : v.opened ≡ first = fits.opened live in subst (λ (p : ℕ). AreGlances p r.log (v.glances ++ (length r.log, phase_after p r.log) ∷ [])) (sym is) (glances_right first r.log v.glances fits.glances);
-        sole = λ sole. (sole_sees r.log r.owner s.views id v r.numbers r.kinship at fits.seen sole, sole_asked s r id v at sole);
+        sole = λ sole. (sole_sees r.log r.owner s.views id v r.numbers r.kinship at fits.seen sole, sole_asked s r id v at sole, sole_all s r id v at sole);
       }
 
   pub looks : (slots id : ℕ) (me : M) (k : ℕ) → me.0.ticket ≡ Some k → me.0.turn ≡ false → me.0.spent ≡ false → me.1 ≡ [] → Allows Holds slots id me 1 (λ n. n) (Looks stands may (step slots 1 0 0 none) me)

@@ -5,7 +5,7 @@ use Rattle.gi_turn.specs.declared.view.Entry.{Entry}
 use Rattle.gi_turn.specs.declared.view.View.{View}
 use Rattle.gi_turn.specs.Entries.{phase_after, StartsWith, AreGlances, glance_at}
 use Rattle.gi_turn.specs.Numbers.{OwnIn}
-use Rattle.gi_turn.specs.Views.{Sole, KnowsPhases, KnowsMarks, OwnSeen, IsLawful, AskedBy, after_draw, after_look, with_turn, after_publish, after_ask, after_see, after_settle}
+use Rattle.gi_turn.specs.Views.{Sole, KnowsPhases, KnowsMarks, OwnSeen, IsLawful, AskedBy, HoldsAll, after_draw, after_look, with_turn, after_publish, after_ask, after_see, after_settle}
 
 -- What a seat with the view v learns as its turn comes: the whole history with no entry of its own that it had not seen, the value, which stands for it, the causes of all marks, and that its glances were right.
 pub record Finds {T : Type 0} (stands : T → List Entry → Type 0) (may : List Entry → ℕ → Type 0) (v : View) (glances : List (ℕ × ℕ)) (log : List Entry) (t : T) : Type 0 where
@@ -14,7 +14,7 @@ pub record Finds {T : Type 0} (stands : T → List Entry → Type 0) (may : List
   pub own_seen : OwnSeen v log
   pub lawful : IsLawful may log
   pub named : AreGlances v.opened log glances
-  pub sole : Sole v → (log ≡ v.seen) × AskedBy v log
+  pub sole : Sole v → (log ≡ v.seen) × AskedBy v log × HoldsAll v log
 
 -- the glances of a seat that waited, looking in vain, until the whole history was log
 abbrev pub glances_after : View → List (ℕ × ℕ) → List Entry → List (ℕ × ℕ)

@@ -90,9 +90,13 @@ IsLawful may log = (k : ℕ) (e : Entry) → At log k e → e.mark ≢ 0 → (l 
 abbrev pub AskedBy : View → List Entry → Type 0
 AskedBy v log = (k : ℕ) (e : Entry) → At log k e → e.mark ≢ 0 → (l : ℕ) × (l ≤ k) × Contains v.asked (e.mark, l)
 
--- each mark of the seat's history had its cause, and where the seat is sole it has asked it
+-- each entry of the history has a number that the seat holds
+abbrev pub HoldsAll : View → List Entry → Type 0
+HoldsAll v log = (k : ℕ) (e : Entry) → At log k e → Contains v.held e.by
+
+-- each mark of the seat's history had its cause, and where the seat is sole it has asked it, and holds the numbers of all entries
 abbrev pub KnowsMarks : (List Entry → ℕ → Type 0) → View → Type 0
-KnowsMarks may v = IsLawful may v.seen × (Sole v → AskedBy v v.seen)
+KnowsMarks may v = IsLawful may v.seen × (Sole v → AskedBy v v.seen) × (Sole v → HoldsAll v v.seen)
 
 -- the seat holds the same numbers, and has split off the same
 abbrev pub HoldsAsBefore : View → View → Type 0
