@@ -9,12 +9,20 @@ use Rattle.gi_prop.specs.Assigned.{Assigned, IsTrail, no_lits, cancelled}
 use Rattle.gi_prop.specs.Attached.{Attached, IsAttached, IsForcedAt, Goes, Attaches, HasSameKeys}
 use Rattle.gi_prop.proofs.Keys.{goes_edit}
 use Rattle.gi_cdcl.specs.Sound.{IsSupported, IsSound}
-use Rattle.gi_cdcl.specs.Searching.{Searching, GoesWith}
+use Rattle.gi_cdcl.specs.Searching.{Searching, IsRooted, GoesWith}
 use Rattle.gi_cdcl.specs.Laws.{EditsKeepSearches}
 use Rattle.gi_cdcl.specs.Going.{AreAttached}
 use Rattle.gi_cdcl.proofs.Lists.{Contains-nil}
 use Rattle.gi_cdcl.proofs.Uip.{holds_live}
 use Rattle.gi_cdcl.proofs.Trails.{IsSound-learnt, IsSound-cut, cancelled_is}
+
+pub rooted : (s : Searching) (h : Held) → GoesWith s h → IsRooted s h
+unfolding GoesWith
+rooted s h g = g
+
+pub goes_with : (s : Searching) (h : Held) → IsRooted s h → GoesWith s h
+unfolding GoesWith
+goes_with s h r = r
 
 -- a clause more supports what was supported
 pub sound_learnt : (h new : Held) (t : Assigned) (key : ℕ) (c : List ℕ) → new ≡ with_learnt key c h → IsSound h t → IsSound new t
@@ -22,9 +30,9 @@ sound_learnt h new t key c e s = subst (λ (x : Held). IsSound x t) (sym e) (IsS
 
 -- an edit of the store
 pub goes_edited : EditsKeepSearches
-goes_edited s old new g keeps live = record {
-  goes = goes_edit s.attached old new s.root g.goes keeps live;
-  forced = λ k lt. let f = g.forced k lt in record {
+goes_edited s old new g keeps live = goes_with s new (record {
+  goes = goes_edit s.attached old new s.root (rooted s old g).goes keeps live;
+  forced = λ k lt. let f = (rooted s old g).forced k lt in record {
     key = f.key;
     reason = f.reason;
     attached = f.attached;
@@ -32,7 +40,7 @@ goes_edited s old new g keeps live = record {
     held = keeps.each f.key f.clause f.held (live f.key f.attached);
     forces = f.forces;
   };
-}
+})
 
 -- the same literals, where what was attached is so still
 forced_still : (p q : Attached) (h : Held) (t b : Assigned) → ((k : ℕ) → IsAttached p k → IsAttached q k) → b.lits ≡ t.lits → b.reasons ≡ t.reasons → (k : ℕ) → IsForcedAt p h t k → IsForcedAt q h b k
@@ -46,7 +54,7 @@ forced_still p q h t b keep el er k f = record {
 }
 
 pub goes_still : (s t : Searching) (h : Held) → GoesWith s h → ((k : ℕ) → IsAttached s.attached k → IsAttached t.attached k) → t.root.lits ≡ s.root.lits → t.root.reasons ≡ s.root.reasons → Goes t.attached h t.root → GoesWith t h
-goes_still s t h g keep el er goes = record { goes = goes; forced = λ k lt. forced_still s.attached t.attached h s.root t.root keep el er k (g.forced k (subst (λ (xs : List ℕ). k < length xs) el lt)) }
+goes_still s t h g keep el er goes = goes_with t h (record { goes = goes; forced = λ k lt. forced_still s.attached t.attached h s.root t.root keep el er k ((rooted s h g).forced k (subst (λ (xs : List ℕ). k < length xs) el lt)) })
 
 -- an attempt to attach a key detaches none
 pub attach_keeps : {X E : Type 0} (r : Result X E) (p q : Attached) (key : ℕ) → OnOk r (Attaches key p q) → OnErr r (HasSameKeys p q) → (k : ℕ) → IsAttached p k → IsAttached q k
@@ -60,11 +68,11 @@ err_both (Err x) f p q = f p q
 
 -- with nothing on the trail
 pub goes_blank : (s : Searching) (h : Held) (n : ℕ) → s.root ≡ no_lits n → Goes s.attached h s.root → GoesWith s h
-goes_blank s h n e goes = record { goes = goes; forced = λ k lt. absurd (let z : length s.root.lits ≡ 0 = ap (λ (t : Assigned). length t.lits) e in omega (arith, lt, z)) }
+goes_blank s h n e goes = goes_with s h (record { goes = goes; forced = λ k lt. absurd (let z : length s.root.lits ≡ 0 = ap (λ (t : Assigned). length t.lits) e in omega (arith, lt, z)) })
 
 -- what was forced is supported
 pub rooted_sound : (s : Searching) (h : Held) → GoesWith s h → IsSound h s.root
-rooted_sound s h g = record { each = λ k lt. let f = g.forced k lt in subst (IsSupported h s.root k) (sym f.reason) (f.clause, f.held, f.forces) }
+rooted_sound s h g = record { each = λ k lt. let f = (rooted s h g).forced k lt in subst (IsSupported h s.root k) (sym f.reason) (f.clause, f.held, f.forces) }
 
 -- back at the root
 cancelled_same : (t : Assigned) → length t.marks ≤ 0 → cancelled 0 t ≡ t
@@ -92,7 +100,7 @@ cancelled_root t = elim (cases_lt 0 (length t.marks)) [
 
 -- and the search goes with the store
 pub goes_back : (p : Attached) (h : Held) (t b : Assigned) → IsTrail t → AreAttached p h t → IsSound h t → b ≡ cancelled 0 t → Goes p h b → GoesWith (record { attached = p; root = b }) h
-goes_back p h t b tr a s e goes = record { goes = goes; forced = λ k lt. at_place k (get_or b.reasons k None) refl (sound.each k lt) }
+goes_back p h t b tr a s e goes = goes_with (record { attached = p; root = b }) h (record { goes = goes; forced = λ k lt. at_place k (get_or b.reasons k None) refl (sound.each k lt) })
   where
     sound : IsSound h b
     sound = subst (IsSound h) (sym e) (cancelled_sound h t tr s)

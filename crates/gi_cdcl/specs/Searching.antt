@@ -12,9 +12,13 @@ pub record Searching : Type 0 where
   pub root : Assigned
 
 -- each attached key has a clause in the store, of variables that the search has room for, and such a clause forced each literal of the root
-pub record GoesWith (s : Searching) (h : Held) : Type 0 where
+pub record IsRooted (s : Searching) (h : Held) : Type 0 where
   pub goes : Goes s.attached h s.root
   pub forced : (k : ℕ) → k < length s.root.lits → IsForcedAt s.attached h s.root k
+
+-- a search goes with a store
+unfoldable pub GoesWith : Searching → Held → Type 0
+GoesWith s h = IsRooted s h
 
 -- exactly the store's clauses are attached
 pub record HasAll (s : Searching) (h : Held) : Type 0 where

@@ -2,13 +2,19 @@ use Rattle.std.proofs.Common.{◌≡◌, ap, subst, sym, arith, max}
 use Rattle.gi_prop.specs.Assigned.{Assigned}
 use Rattle.gi_cdcl.proofs.Stores.{holds_within}
 use Rattle.gi_cdcl.specs.Searching.{Searching, GoesWith}
-use Rattle.gi_cdcl.proofs.Rooted.{goes_still, attach_keeps, err_both}
+use Rattle.gi_cdcl.proofs.Rooted.{rooted, goes_still, attach_keeps, err_both}
 use Rattle.gi_cdcl.proofs.search.Search.attach.Goals as goal
 
 pub attach-requires-clause-within : goal.attach-requires-clause-within
 attach-requires-clause-within c clause held =
     let e : c.grow.new.self.vars ≡ max c.self.inside.engine.trail.vars c.vars.result = ap (λ (t : Assigned). t.vars) c.in_ok-grow.ensures.ok in
     holds_within c.args.store.now c.vars.ensures.whole c.args.key clause held c.grow.new.self.vars (rw (e, c.vars.ensures.value) (omega arith))
+
+pub attach-requires-clause-goes : goal.attach-requires-clause-goes
+attach-requires-clause-goes c =
+    let e = c.self.inside.engine in
+    let old : Searching = record { attached = e.prop; root = e.trail } in
+    c.grow.ensures.goes e.prop c.args.store.now (rooted old c.args.store.now (subst (λ (s : Searching). GoesWith s c.args.store.now) (sym c.self.view_is) c.requires.goes)).goes
 
 pub returns-clause-goes : goal.returns-clause-goes
 returns-clause-goes c =
@@ -23,5 +29,5 @@ returns-clause-err_goes c =
     let e = c.self.inside.engine in
     let old : Searching = record { attached = e.prop; root = e.trail } in
     let new : Searching = record { attached = c.attach.new.self; root = c.grow.new.self } in
-    err_both c.attach.result (λ same goes h g. let v = subst (λ (s : Searching). GoesWith s h) (sym c.self.view_is) g in goes_still old new h v same.kept (ap (λ (t : Assigned). t.lits) c.in_ok-grow.ensures.ok) (ap (λ (t : Assigned). t.reasons) c.in_ok-grow.ensures.ok) (goes h c.grow.new.self (c.grow.ensures.goes e.prop h v.goes)))
+    err_both c.attach.result (λ same goes h g. let v = subst (λ (s : Searching). GoesWith s h) (sym c.self.view_is) g in goes_still old new h v same.kept (ap (λ (t : Assigned). t.lits) c.in_ok-grow.ensures.ok) (ap (λ (t : Assigned). t.reasons) c.in_ok-grow.ensures.ok) (goes h c.grow.new.self (c.grow.ensures.goes e.prop h (rooted old h v).goes)))
     c.attach.ensures.err c.attach.ensures.err_goes

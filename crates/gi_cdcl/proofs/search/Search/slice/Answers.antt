@@ -3,7 +3,7 @@ use Rattle.gi_prop.specs.Assigned.{Assigned}
 use Rattle.gi_cdcl.specs.Ends.{Slices}
 use Rattle.gi_cdcl.proofs.Ending.{learns_keep, slices_of}
 use Rattle.gi_cdcl.specs.Searching.{Searching, GoesWith, HasAll}
-use Rattle.gi_cdcl.proofs.Rooted.{goes_back, rooted_sound, cancelled_root}
+use Rattle.gi_cdcl.proofs.Rooted.{rooted, goes_back, rooted_sound, cancelled_root}
 use Rattle.gi_cdcl.proofs.search.Search.slice.Goals as goal
 
 pub returns-clause-keeps : goal.returns-clause-keeps
@@ -35,4 +35,4 @@ pub start-end-requires-clause-attached : goal.start-end-requires-clause-attached
 start-end-requires-clause-attached g c =
     let v = subst (λ (s : Searching). GoesWith s c.args.store.now) (sym c.self.view_is) c.requires.goes in
     let a = subst (λ (s : Searching). HasAll s c.args.store.now) (sym c.self.view_is) c.requires.all in
-    record { goes = v.goes; all = a.all; only = a.only }
+    record { goes = (rooted (record { attached = c.self.inside.engine.prop; root = c.self.inside.engine.trail }) c.args.store.now v).goes; all = a.all; only = a.only }
