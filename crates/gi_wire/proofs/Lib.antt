@@ -5,3 +5,7 @@ pub mod Reading
 pub mod Sources
 pub mod Staying
 pub mod Joining
+pub mod FieldCuts
+pub mod Spelled
+pub mod Telling
+pub mod ReadBack

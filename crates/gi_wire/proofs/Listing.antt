@@ -1,7 +1,8 @@
 -- Lists of literals and of guards, word by word.
-use Rattle.std.proofs.Common.{◌≡◌, ℕ, List, [], ◌∷◌, ◌++◌, Option, Some, None, option_map, false, refl, ap, sym, append_assoc}
+use Rattle.std.proofs.Common.{◌≡◌, ℕ, List, [], ◌∷◌, ◌++◌, Option, Some, None, option_map, false, bytes_eq, codes, refl, ap, sym, append_assoc}
 use Rattle.gi_text.specs.Numbers.{number_of}
-use Rattle.gi_wire.specs.Grammar.{guard_at, guards_at, is_zero, literal_at, list_at}
+use Rattle.gi_wire.specs.Answers.{literals_of, spelled}
+use Rattle.gi_wire.specs.Grammar.{guard_at, guards_at, is_zero, list_at, literal_at, literal_in}
 
 two_maps : (list : List ℕ) (l : ℕ) (o : Option (List ℕ)) → option_map (λ ls. list ++ ls) (option_map (λ ls. l ∷ ls) o) ≡ option_map (λ ls. (list ++ l ∷ []) ++ ls) o
 two_maps list l None = refl
@@ -11,6 +12,11 @@ two_maps list l (Some ls) = ap Some (sym (append_assoc list (l ∷ []) ls))
 pub list_goes_on : (list word : List ℕ) (words : List (List ℕ)) (l : ℕ) → is_zero (number_of word) ≡ false → literal_at word ≡ Some l → option_map (λ ls. list ++ ls) (list_at (word ∷ words)) ≡ option_map (λ ls. (list ++ l ∷ []) ++ ls) (list_at words)
 unfolding list_at
 list_goes_on list word words l some is = rw (some, is) (two_maps list l (list_at words))
+
+-- so does one with its shortest spelling
+pub literals_go_on : (list field : List ℕ) (fields : List (List ℕ)) (l : ℕ) → bytes_eq field (codes "0") ≡ false → literal_in (spelled field) ≡ Some l → option_map (λ ls. list ++ ls) (literals_of (field ∷ fields)) ≡ option_map (λ ls. (list ++ l ∷ []) ++ ls) (literals_of fields)
+unfolding literals_of
+literals_go_on list field fields l some is = rw (some, is) (two_maps list l (literals_of fields))
 
 -- guards before those that were read
 abbrev pub guards_and : List ℕ → List ℕ × List (List ℕ) → List ℕ × List (List ℕ)

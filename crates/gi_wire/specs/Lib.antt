@@ -3,6 +3,9 @@ pub mod Literals
 pub mod Text
 pub mod Grammar
 pub mod CallRead
+pub mod Fields
+pub mod Answers
+pub mod ReplyRead
 pub mod Items
 pub mod Source
 pub mod Gives

@@ -339,7 +339,7 @@ fn read_guard(word: &[u8]) -> Option<Var>
     Var::new(read_count(word, 1, MAX_VAR)?)
 }
 
-fn read_literal(word: &[u8]) -> Option<Lit>
+pub(crate) fn read_literal(word: &[u8]) -> Option<Lit>
     ensures { result ≡ literal_at word.now }
 {
     match read_number(word) {

@@ -1,5 +1,6 @@
 // Laws of items.
 ghost use Rattle.gi_wire.specs.Laws.{CutLinesAreRefused, CutLoadsAreRefused, ItemsStay, LinesAreJoined, LoadsAreItems};
+ghost use Rattle.gi_wire.specs.ReplyRead.{TextsDiffer};
 
 /// The items of the bytes so far are a front of the items of more bytes.
 pub fn items_stay()
@@ -18,4 +19,10 @@ pub fn loads_are_items()
 pub fn lines_are_joined()
     ensures joined { LinesAreJoined }
     ensures cut { CutLinesAreRefused }
+{}
+
+/// No two answers have the same text, where the line is 0 of each that names none: so what `write_reply` writes is read
+/// back as that answer.
+pub fn answers_differ()
+    ensures { TextsDiffer }
 {}

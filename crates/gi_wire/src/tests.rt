@@ -386,3 +386,103 @@ fn items_are_lines_and_loads(rt: HostRuntime) {
         assert!(rt; gives_all(rt.alloc(), front, back, loaded, want), "{front}");
     }
 }
+
+const ANSWERS: [&str; 32] = [
+    "ok",
+    "bye",
+    "nomem",
+    "vars 0",
+    "vars 4294967295",
+    "guard 1",
+    "guard 16777216",
+    "implied 0",
+    "failed -1 2 0",
+    "reasons 16777216 0",
+    "model 1 -16777216 0",
+    "clause 7 0",
+    "started 18446744073709551615",
+    "running 1 0",
+    "paused 18446744073709551615 4294967295",
+    "sat 1",
+    "unsat 1",
+    "unsat 1 0",
+    "unsat 1 2 0",
+    "unknown 1 budget",
+    "unknown 1 stopped",
+    "known 0",
+    "loaded cnf 2 1",
+    "refused 1 1",
+    "refused 3 12",
+    "refused 18446744073709551615 14",
+    "refused 1 16 2 header",
+    "refused 1 16 2 word",
+    "refused 1 16 2 number",
+    "refused 1 16 2 limit",
+    "refused 1 16 18446744073709551615 unterminated",
+    "refused 1 16 2 word 4294967295",
+];
+
+fn is_answer_line(alloc: Global, line: &str) -> bool {
+    matches!(read_reply(alloc, line.as_bytes()), ReplyRead::Told { .. })
+}
+
+#[test]
+fn lines_that_answer(rt: HostRuntime) {
+    for line in ANSWERS {
+        assert!(rt; is_answer_line(rt.alloc(), line), "{line}");
+    }
+}
+
+const OTHERS: [&str; 40] = [
+    "",
+    " ",
+    "maybe",
+    "Ok",
+    " ok",
+    "ok ",
+    "ok\r",
+    "ok 1",
+    "vars",
+    "vars ",
+    "vars  1",
+    "vars 1 ",
+    "vars\t1",
+    "vars 01",
+    "vars +1",
+    "vars -1",
+    "vars 4294967296",
+    "guard 0",
+    "guard 16777217",
+    "started 18446744073709551616",
+    "implied",
+    "implied 1",
+    "implied 0 0",
+    "implied 00",
+    "implied -0 0",
+    "implied 01 0",
+    "implied 16777217 0",
+    "implied 1  0",
+    "running 1",
+    "unknown 1",
+    "unknown 1 lost",
+    "loaded aig 1 2",
+    "loaded cnf 1",
+    "refused 1",
+    "refused 1 0",
+    "refused 1 15",
+    "refused 1 16",
+    "refused 1 12 1",
+    "refused 1 16 2 word 0",
+    "refused 1 16 2 order",
+];
+
+fn is_bad(alloc: Global, line: &str) -> bool {
+    matches!(read_reply(alloc, line.as_bytes()), ReplyRead::Bad)
+}
+
+#[test]
+fn lines_that_do_not_answer(rt: HostRuntime) {
+    for line in OTHERS {
+        assert!(rt; is_bad(rt.alloc(), line), "{line}");
+    }
+}
