@@ -1,8 +1,7 @@
 -- Texts of answers are read back.
-use Rattle.std.proofs.Common.{◌≡◌, ◌≢◌, ℕ, zero, suc, ◌+◌, ◌<◌, ◌≤◌, ◌==◌, Bool, true, false, cond, Option, Some, None, option_map, List, [], ◌∷◌, ◌++◌, length, bytes_eq, codes, decimal, inl, inr, refl, ap, sym, ◌∙◌, append_assoc, arith, pos}
+use Rattle.std.proofs.Common.{◌≡◌, ◌≢◌, ℕ, zero, suc, ◌≤◌, Option, Some, None, option_map, List, [], ◌∷◌, ◌++◌, codes, decimal, refl, ap, sym, ◌∙◌, append_assoc, arith, pos}
 use Rattle.std.specs.List.{All, AllByRecursion}
 use Rattle.std.specs.Fmt.{signed_decimal}
-use Rattle.std.proofs.lemmas.Bool.Decides.{eqb_tells}
 use Rattle.std.proofs.lemmas.List.{append-nil}
 use Rattle.std.proofs.lemmas.List.Elements.{recursion_from_All}
 use Rattle.gi_dimacs.specs.declared.fault.CnfCode.TheVariants.{Header, Word, Number, Limit, Unterminated}
@@ -17,12 +16,12 @@ use Rattle.gi_model.specs.declared.replies.Reply.TheVariants as reply
 use Rattle.gi_model.specs.declared.replies.Status.{Status}
 use Rattle.gi_model.specs.declared.replies.Status.TheVariants as status
 use Rattle.gi_model.specs.declared.replies.Why.TheVariants as why
-use Rattle.gi_wire.specs.Answers.{code_of, counts_by, failed_by, literals_of, natural, natural_32, natural_64, payload_at, payload_by, payload_of, plain_by, plain_refusal, refusal_of, refused_by, reply_alone, reply_of, reply_of_two, reply_with, spelled, status_by, told_of}
+use Rattle.gi_wire.specs.Answers.{code_of, counts_by, failed_by, literals_of, natural, natural_32, natural_64, payload_at, payload_by, payload_of, plain_by, plain_refusal, refusal_of, refused_by, reply_alone, reply_of, reply_of_two, reply_with, status_by, told_of}
 use Rattle.gi_wire.specs.Fields.{fields_from, fields_of}
-use Rattle.gi_wire.specs.Grammar.{led_by, literal_in}
+use Rattle.gi_wire.specs.Grammar.{led_by}
 use Rattle.gi_wire.specs.Limits.{most_u32, most_u64}
 use Rattle.gi_wire.specs.Literals.{list_text}
-use Rattle.gi_wire.specs.ReplyRead.{HasPlace, IsTold, ReadsReply, TextsDiffer}
+use Rattle.gi_wire.specs.ReplyRead.{IsTold, TextsDiffer}
 use Rattle.gi_wire.specs.Text.{code_text, details_text, gate_text, status_text, words_text}
 use Rattle.gi_wire.proofs.FieldCuts.{field_last, field_space}
 use Rattle.gi_wire.proofs.Spelled.{literal_some, natural_some, not_zero, number_few, other_bytes, signed_apart, some_of}

@@ -1,9 +1,8 @@
 -- What the fields of a line tell is told by no other line.
-use Rattle.std.proofs.Common.{◌≡◌, ℕ, zero, suc, ◌+◌, ◌<◌, ◌≤◌, ◌==◌, Bool, true, false, cond, Option, Some, None, option_map, List, [], ◌∷◌, ◌++◌, length, bytes_eq, codes, decimal, ◌⊎◌, inl, inr, refl, ap, sym, ◌∙◌, subst, append_assoc, arith, pos}
+use Rattle.std.proofs.Common.{◌≡◌, ℕ, ◌<◌, ◌≤◌, ◌==◌, Bool, true, false, cond, Option, Some, None, option_map, List, [], ◌∷◌, ◌++◌, length, bytes_eq, codes, decimal, refl, ap, sym, ◌∙◌, subst, append_assoc, arith}
 use Rattle.std.specs.List.{All, AllByRecursion, flat_map}
 use Rattle.std.specs.Fmt.{signed_decimal}
 use Rattle.std.proofs.lemmas.Bool.{eqb-true, ne_eqb}
-use Rattle.std.proofs.lemmas.Bool.Decides.{eqb_tells}
 use Rattle.std.proofs.lemmas.List.{append-nil}
 use Rattle.std.proofs.lemmas.List.Elements.{All-from_recursion}
 use Rattle.std.proofs.lemmas.Slice.Eq.{bytes_eq-Decides}
@@ -25,7 +24,7 @@ use Rattle.gi_wire.specs.Fields.{fields_of}
 use Rattle.gi_wire.specs.Grammar.{ended, led_by, literal_in}
 use Rattle.gi_wire.specs.Limits.{most_u32, most_u64}
 use Rattle.gi_wire.specs.Literals.{list_text, literal_text}
-use Rattle.gi_wire.specs.ReplyRead.{HasPlace, HasSpent, IsTold}
+use Rattle.gi_wire.specs.ReplyRead.{HasPlace, IsTold}
 use Rattle.gi_wire.specs.Text.{code_text, details_text, gate_text, reason_text, status_text, words_text}
 use Rattle.gi_wire.proofs.FieldCuts.{joined, joined_fields, joined_more}
 use Rattle.gi_wire.proofs.Spelled.{literal_is, natural_is, some_of}
