@@ -122,10 +122,14 @@ call_of (name ∷ words) = if bytes_eq name (codes "add") then option_map Add (l
     else if bytes_eq name (codes "assume") then option_map Assume (list_at words)
     else if bytes_eq name (codes "under") then under_of words else short_call name words
 
--- the first word is the name of a call that has a list of literals
+-- the name of a call that has a list of literals
+abbrev pub names_list : List ℕ → Bool
+names_list name = bytes_eq name (codes "add") || (bytes_eq name (codes "assume") || bytes_eq name (codes "under"))
+
+-- the first word is such a name
 unfoldable pub has_list : List (List ℕ) → Bool
 has_list [] = false
-has_list (name ∷ words) = bytes_eq name (codes "add") || (bytes_eq name (codes "assume") || bytes_eq name (codes "under"))
+has_list (name ∷ words) = names_list name
 
 -- the last word is `+`
 unfoldable pub ends_plus : List (List ℕ) → Bool

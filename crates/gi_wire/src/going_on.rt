@@ -1,9 +1,8 @@
 // Lines that go on.
-ghost use Rattle.std.specs.Prelude.{◌≡◌, ◌≤◌, ◌<◌, ◌-◌, ◌||◌, ℕ, codes, drop, false, length, slice_index, take, true, MatchOption};
-ghost use Rattle.std.specs.Str.{bytes_eq};
+ghost use Rattle.std.specs.Prelude.{◌≡◌, ◌≤◌, ◌<◌, ◌-◌, ℕ, drop, false, length, slice_index, take, true, MatchOption};
 ghost use Rattle.gi_text.specs.Words.{is_white, words_of};
 ghost use Rattle.gi_wire.specs.CallRead.{EndsAtPlus};
-ghost use Rattle.gi_wire.specs.Grammar.{ends_plus, has_list};
+ghost use Rattle.gi_wire.specs.Grammar.{ends_plus, has_list, names_list};
 ghost use Rattle.gi_wire.specs.Limits.{most_joined};
 
 use gi_text::Words;
@@ -22,7 +21,7 @@ pub fn may_go_on(line: &[u8]) -> bool
 
 // Whether a call of this name has a list.
 fn is_list_name(name: &[u8]) -> bool
-    ensures { result ≡ (bytes_eq name.now (codes "add") || (bytes_eq name.now (codes "assume") || bytes_eq name.now (codes "under"))) }
+    ensures { result ≡ names_list name.now }
 {
     if name == b"add".as_slice() {
         return true;
