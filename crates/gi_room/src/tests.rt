@@ -41,7 +41,7 @@ enum Told {
     Other,
 }
 
-fn told(reply: Reply) -> Told {
+fn answer_in(reply: Reply) -> Told {
     match reply {
         Reply::Vars(1) => Told::Vars,
         Reply::Started(1) => Told::Started,
@@ -76,14 +76,14 @@ impl Desk {
     fn call<R: Wait>(&mut self, rt: &R, call: &Call) -> Told
         requires { fits call.now ≡ true }
     {
-        told(self.room.call(rt, &mut self.pass, call))
+        answer_in(self.room.call(rt, &mut self.pass, call))
     }
 
     fn act<R: Wait>(&mut self, rt: &R, act: Act) -> Told {
         match act {
             Act::Vars => self.call(rt, &Call::Vars(1)),
             Act::Solve => self.call(rt, &Call::Solve(5)),
-            Act::Help => told(self.room.help(rt, &mut self.pass)),
+            Act::Help => answer_in(self.room.help(rt, &mut self.pass)),
             Act::Poll => self.call(rt, &Call::Poll),
             Act::Shut => self.call(rt, &Call::Shut),
         }
@@ -137,7 +137,7 @@ fn a_pass_is_used_up(rt: HostRuntime) -> Result<(), Fail> {
 fn a_pass_is_joined_again(rt: HostRuntime) -> Result<(), Fail> {
     let (room, mut pass) = Room::open(rt.alloc())?;
     let mut other = room.split(&mut pass);
-    let _vars = told(room.call(&rt, &mut other, &Call::Vars(1)));
+    let _vars = answer_in(room.call(&rt, &mut other, &Call::Vars(1)));
     room.join(&mut pass, other);
     assert_eq!(rt; pass.calls_left(), (1 << 56) - 1);
     Ok(())
@@ -170,9 +170,9 @@ fn poll<R: Wait>(rt: &R, room: &Room, pass: &mut Pass) -> bool
 fn solve_without_work<R: Wait>(rt: &R, room: &Room, pass: &mut Pass) -> bool
     requires of { pass.old.place ≡ room.now }
 {
-    let _started = told(room.call(rt, pass, &Call::Solve(5)));
+    let _started = answer_in(room.call(rt, pass, &Call::Solve(5)));
     let found = poll(rt, room, pass);
-    let _done = told(room.call(rt, pass, &Call::Shut));
+    let _done = answer_in(room.call(rt, pass, &Call::Shut));
     found
 }
 
@@ -203,7 +203,7 @@ fn a_worker_beside_calls(rt: HostRuntime) -> Result<(), Fail> {
 #[test]
 fn a_worker_ends_where_the_machine_is_shut(rt: HostRuntime) -> Result<(), Fail> {
     let (room, mut pass) = Room::open(rt.alloc())?;
-    let _done = told(room.call(&rt, &mut pass, &Call::Shut));
+    let _done = answer_in(room.call(&rt, &mut pass, &Call::Shut));
     let pass = room.work_until_shut(&rt, pass, &OpenGate);
     assert_eq!(rt; pass.calls_left(), (1 << 56) - 1);
     Ok(())
