@@ -3,7 +3,7 @@ use Rattle.std.proofs.Common.{◌≡◌, ℕ, ◌+◌, ◌/◌, ◌<◌, ◌≤�
 use Rattle.std.specs.List.{All, Contains}
 use Rattle.std.proofs.lemmas.List.Elements.{All-head, All-tail, All-contains, All-weaker, All-push, Contains-get_or, Contains-append_left, Contains-append_right, Contains-append_cases, Contains-push_cases}
 use Rattle.gi_lit.specs.Truth.{clause_true, Satisfies, Fail}
-use Rattle.gi_lit.specs.Problem.{Group, are_given, forced, guarded, Problem, force, full, top, grown, with_clause, with_group, IsProblemVar, IsPlain, IsGroup, IsWellFormed, IsLiveVar, IsAssumable, guard_made}
+use Rattle.gi_lit.specs.Problem.{Group, are_given, forced, guarded, Problem, in_force, full, top, grown, with_clause, with_group, IsProblemVar, IsPlain, IsGroup, IsWellFormed, IsLiveVar, IsAssumable, guard_made}
 use Rattle.gi_lit.specs.Learnt.{IsImplied}
 use Rattle.gi_lit.specs.Lists.{IsDistinct}
 use Rattle.gi_lit.proofs.Tops.{top_bounds}
@@ -17,7 +17,7 @@ pub record Grows (p q : Problem) : Type 0 where
   pub live : (v : ℕ) → IsLiveVar p v → IsLiveVar q v
   pub active : (g : ℕ) → Contains p.active g → Contains q.active g
   pub full : (c : List ℕ) → Contains (full p) c → Contains (full q) c
-  pub force : (given c : List ℕ) → Contains (force p given) c → Contains (force q given) c
+  pub in_force : (given c : List ℕ) → Contains (in_force p given) c → Contains (in_force q given) c
 
 pub Satisfies-fewer : (cs ds : List (List ℕ)) (values : List Bool) → ((c : List ℕ) → Contains cs c → Contains ds c) → Satisfies values ds → Satisfies values cs
 Satisfies-fewer cs ds values f s = record { each = λ k d lt. All-contains (λ c. clause_true values c ≡ true) ds _ s.each (f _ (Contains-get_or cs k d lt)) }
@@ -30,8 +30,8 @@ module _ (p q : Problem) (g : Grows p q) where
   pub implied_grows : (c : List ℕ) → IsImplied p c → IsImplied q c
   implied_grows c h = record { each = λ values s. h.each values (Satisfies-fewer (full p) (full q) values g.full s) }
 
-  pub fails_more : (w : List ℕ) → Fail (force p w) w → Fail (force q w) w
-  fails_more w h values s t = h values (Satisfies-fewer (force p w) (force q w) values (g.force w) s) t
+  pub fails_more : (w : List ℕ) → Fail (in_force p w) w → Fail (in_force q w) w
+  fails_more w h values s t = h values (Satisfies-fewer (in_force p w) (in_force q w) values (g.in_force w) s) t
 
   pub plain_grows : (c : List ℕ) → IsPlain p c → IsPlain q c
   plain_grows c h = All-weaker (λ l. IsProblemVar p (l / 2)) (λ l. IsProblemVar q (l / 2)) (λ l. g.vars (l / 2)) c h
@@ -41,13 +41,13 @@ module _ (p q : Problem) (g : Grows p q) where
 
 -- variables
 pub grows_grown : (n : ℕ) (p : Problem) → Grows p (grown n p)
-unfolding full force
+unfolding full in_force
 grows_grown n p = record {
   vars = λ v h. let f = var_facts p v h in var_from (grown n p) v (record { low = f.low; high = omega arith; inactive = f.inactive; unfreed = f.unfreed });
   live = λ v h. let a = h.1 in (h.0, omega arith, h.2);
   active = λ g h. h;
   full = λ c h. h;
-  force = λ given c h. h;
+  in_force = λ given c h. h;
 }
 
 pub IsWellFormed-grown : (n : ℕ) (p : Problem) → IsWellFormed p → IsWellFormed (grown n p)
@@ -77,7 +77,7 @@ usable_plain p c h u = λ k d lt. usable_grown (top c) p (get_or c k d) h (u k d
 
 -- a clause more
 pub grows_clause : (c : List ℕ) (p : Problem) → Grows p (with_clause c p)
-unfolding full force
+unfolding full in_force
 grows_clause c p = record {
   vars = (grows_grown (top c) p).vars;
   live = (grows_grown (top c) p).live;
@@ -86,7 +86,7 @@ grows_clause c p = record {
     | inl a ↦ Contains-append_left (p.plain ++ c ∷ []) (map guarded p.groups) d (Contains-append_left p.plain (c ∷ []) d a)
     | inr b ↦ Contains-append_right (p.plain ++ c ∷ []) (map guarded p.groups) d b
   ];
-  force = λ given d h. elim (Contains-append_cases p.plain (forced given p.groups) d h) [
+  in_force = λ given d h. elim (Contains-append_cases p.plain (forced given p.groups) d h) [
     | inl a ↦ Contains-append_left (p.plain ++ c ∷ []) (forced given p.groups) d (Contains-append_left p.plain (c ∷ []) d a)
     | inr b ↦ Contains-append_right (p.plain ++ c ∷ []) (forced given p.groups) d b
   ];
@@ -115,7 +115,7 @@ forced_push given (p ∷ ps) q = go (are_given given p.guards) (forced_push give
     go false e = e
 
 pub grows_group : (gs c : List ℕ) (p : Problem) → Grows p (with_group gs c p)
-unfolding full force
+unfolding full in_force
 grows_group gs c p = record {
   vars = (grows_grown (top c) p).vars;
   live = (grows_grown (top c) p).live;
@@ -124,7 +124,7 @@ grows_group gs c p = record {
     | inl a ↦ Contains-append_left p.plain (map guarded (with_group gs c p).groups) d a
     | inr b ↦ Contains-append_right p.plain (map guarded (with_group gs c p).groups) d (map_push p.groups _ d b)
   ];
-  force = λ given d h. elim (Contains-append_cases p.plain (forced given p.groups) d h) [
+  in_force = λ given d h. elim (Contains-append_cases p.plain (forced given p.groups) d h) [
     | inl a ↦ Contains-append_left p.plain (forced given (with_group gs c p).groups) d a
     | inr b ↦ Contains-append_right p.plain (forced given (with_group gs c p).groups) d (subst (λ cs. Contains cs d) (sym (forced_push given p.groups _)) (Contains-append_left (forced given p.groups) _ d b))
   ];
@@ -137,20 +137,20 @@ IsWellFormed-group gs c p some a u h =
 
 -- a guard more
 pub grows_guard : (p : Problem) (fs : List ℕ) → p.freed ≡ fs → IsWellFormed p → Grows p (guard_made p fs)
-unfolding full force
+unfolding full in_force
 grows_guard p [] e h = record {
   vars = λ v x. let f = var_facts p v x in var_from (guard_made p []) v (record { low = f.low; high = let b = f.high in omega arith; inactive = λ c. elim (Contains-push_cases p.active (p.vars + 1) v c) [ inl a ↦ f.inactive a | inr q ↦ let b = f.high in omega arith ]; unfreed = f.unfreed });
   live = λ v x. let b = x.1 in (x.0, omega arith, x.2);
   active = λ g c. Contains-append_left p.active ((p.vars + 1) ∷ []) g c;
   full = λ c x. x;
-  force = λ given c x. x;
+  in_force = λ given c x. x;
 }
 grows_guard p (g ∷ gs) e h = record {
   vars = λ v x. let f = var_facts p v x in var_from (guard_made p (g ∷ gs)) v (record { low = f.low; high = f.high; inactive = λ c. elim (Contains-push_cases p.active g v c) [ inl a ↦ f.inactive a | inr q ↦ f.unfreed (rw e (subst (Contains (g ∷ gs)) q (Contains-head g gs))) ]; unfreed = λ c. f.unfreed (rw e (Contains-tail g gs v c)) });
   live = λ v x. (x.0, x.1, λ c. x.2 (rw e (Contains-tail g gs v c)));
   active = λ a c. Contains-append_left p.active (g ∷ []) a c;
   full = λ c x. x;
-  force = λ given c x. x;
+  in_force = λ given c x. x;
 }
 
 pub IsWellFormed-guard : (p : Problem) (fs : List ℕ) → p.freed ≡ fs → IsWellFormed p → IsWellFormed (guard_made p fs)

@@ -6,7 +6,7 @@ use Rattle.std.proofs.lemmas.List.{get_or_past, set_past}
 use Rattle.std.proofs.lemmas.List.Elements.{All-head, All-tail, All-cons, All-contains, Contains-get_or, Contains-append_right}
 use Rattle.std.proofs.lemmas.List.Folds.{list_any_at, Any-from_list_any}
 use Rattle.gi_lit.specs.Truth.{true_in, clause_true, MakesTrue, Satisfies}
-use Rattle.gi_lit.specs.Problem.{Problem, has, force, full, IsPlain, IsProblemVar, IsWellFormed}
+use Rattle.gi_lit.specs.Problem.{Problem, has, in_force, full, IsPlain, IsProblemVar, IsWellFormed}
 use Rattle.gi_lit.specs.Guards.{IsLess, IsAsleep}
 use Rattle.gi_lit.specs.Laws.{GuardsAreSound}
 use Rattle.gi_lit.proofs.Vars.{var_facts, has-from_Contains, lacks}
@@ -101,13 +101,13 @@ module _ (p : Problem) (given : List ℕ) (h : IsWellFormed p) (v : List Bool) w
   guard_false g act missing = negative_true (cleared given p.active v) g (All-contains (λ g. has given (2 * g) ≡ false → get_or (cleared given p.active v) (g - 1) false ≡ false) p.active g (cleared_guards given p.active v) act (lacks given (2 * g) missing))
 
   -- whoever satisfies the clauses in force satisfies the full ones with those guards made false
-  full_true : Satisfies v (force p given) → Satisfies w (full p)
+  full_true : Satisfies v (in_force p given) → Satisfies w (full p)
   full_true s = record { each = λ k d lt. clause (get_or (full p) k d) ((rests p given h).others _ (Contains-get_or (full p) k d lt)) }
     where
-      clause : (c : List ℕ) → ((d : List ℕ) × Contains (force p given) d × IsLess p given c d) ⊎ IsAsleep p given c → clause_true w c ≡ true
+      clause : (c : List ℕ) → ((d : List ℕ) × Contains (in_force p given) d × IsLess p given c d) ⊎ IsAsleep p given c → clause_true w c ≡ true
       clause c (inl t) =
-          let x = true_lit v t.0 (All-contains (λ c. clause_true v c ≡ true) (force p given) t.0 s.each t.1) in
-          let plain : IsProblemVar p (x.0 / 2) = All-contains (λ l. IsProblemVar p (l / 2)) t.0 x.0 (All-contains (IsPlain p) (force p given) t.0 (rests p given h).plain t.1) x.1 in
+          let x = true_lit v t.0 (All-contains (λ c. clause_true v c ≡ true) (in_force p given) t.0 s.each t.1) in
+          let plain : IsProblemVar p (x.0 / 2) = All-contains (λ l. IsProblemVar p (l / 2)) t.0 x.0 (All-contains (IsPlain p) (in_force p given) t.0 (rests p given h).plain t.1) x.1 in
           true_clause w c x.0 (All-contains (Contains c) t.0 x.0 t.2.part x.1) (plain_same x.0 plain ∙ x.2)
       clause c (inr z) = true_clause w c (2 * z.guard + 1) z.negative (guard_false z.guard z.active z.missing)
 

@@ -4,7 +4,7 @@ use Rattle.std.specs.List.{All, Contains}
 use Rattle.std.proofs.lemmas.Bool.{both_ways, and_parts, false≢true}
 use Rattle.std.proofs.lemmas.List.{length-map}
 use Rattle.std.proofs.lemmas.List.Elements.{All-append, All-cons, All-nil, All-head, All-tail, All-map, All-contains, All-contains_itself, All-weaker, Contains-get_or, Contains-append_left, Contains-append_right, Contains-append_cases}
-use Rattle.gi_lit.specs.Problem.{Problem, Group, has, are_given, forced, negatives, guarded, full, force, clause_count, IsProblemVar, IsPlain, IsGroup, IsWellFormed}
+use Rattle.gi_lit.specs.Problem.{Problem, Group, has, are_given, forced, negatives, guarded, full, in_force, clause_count, IsProblemVar, IsPlain, IsGroup, IsWellFormed}
 use Rattle.gi_lit.specs.Guards.{IsGiven, IsLess, IsAsleep, IsGuardedLit, RestsOnGuards}
 use Rattle.gi_lit.specs.Laws.{ProblemsRestOnGuards}
 use Rattle.gi_lit.proofs.Vars.{var_facts, var_from, Contains-from_has, lacks_none}
@@ -97,12 +97,12 @@ module _ (p : Problem) (given : List ℕ) (w : IsWellFormed p) where
       go rest first false = rest
 
   pub rests : RestsOnGuards p given
-  unfolding full force
+  unfolding full in_force
   rests = record {
     lits = All-append (All (IsGuardedLit p)) p.plain (map guarded p.groups) (λ k d lt. plain_lits (get_or p.plain k d) (w.plain k d lt))
         (All-map (All (IsGuardedLit p)) guarded p.groups (λ k d lt. group_lits (get_or p.groups k d) (w.groups k d lt)));
     plain = All-append (IsPlain p) p.plain (forced given p.groups) w.plain (forced_plain p.groups w.groups);
-    in_force = λ d c. elim (Contains-append_cases p.plain (forced given p.groups) d c) [
+    awake = λ d c. elim (Contains-append_cases p.plain (forced given p.groups) d c) [
       | inl a ↦ (d, Contains-append_left p.plain (map guarded p.groups) d a, itself d)
       | inr b ↦ let f = forced_from given p.groups d b in (guarded f.group, Contains-append_right p.plain (map guarded p.groups) (guarded f.group) (Contains-map guarded p.groups f.group f.stands), subst (IsLess p given (guarded f.group)) f.clause (less f.group (group_of f.group f.stands) f.said))
     ];

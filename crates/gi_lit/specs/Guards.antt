@@ -1,7 +1,7 @@
 -- The law on guards: how the full clauses and the clauses in force differ, with no word on how a group is kept.
 use Rattle.std.specs.Prelude.{◌≡◌, ℕ, ◌+◌, ◌*◌, ◌/◌, ◌≤◌, List, All, Contains, ◌⊎◌}
 use Rattle.gi_lit.specs.Literals.{IsSubsetOf}
-use Rattle.gi_lit.specs.Problem.{Problem, full, force, IsPlain}
+use Rattle.gi_lit.specs.Problem.{Problem, full, in_force, IsPlain}
 
 -- the literal is the negative one of an active guard that is given
 pub record IsGiven (p : Problem) (given : List ℕ) (l : ℕ) : Type 0 where
@@ -33,6 +33,6 @@ pub record IsGuardedLit (p : Problem) (l : ℕ) : Type 0 where
 -- has the negative literal of an active guard that isn't given
 pub record RestsOnGuards (p : Problem) (given : List ℕ) : Type 0 where
   pub lits : All (All (IsGuardedLit p)) (full p)
-  pub plain : All (IsPlain p) (force p given)
-  pub in_force : (d : List ℕ) → Contains (force p given) d → (c : List ℕ) × Contains (full p) c × IsLess p given c d
-  pub others : (c : List ℕ) → Contains (full p) c → ((d : List ℕ) × Contains (force p given) d × IsLess p given c d) ⊎ IsAsleep p given c
+  pub plain : All (IsPlain p) (in_force p given)
+  pub awake : (d : List ℕ) → Contains (in_force p given) d → (c : List ℕ) × Contains (full p) c × IsLess p given c d
+  pub others : (c : List ℕ) → Contains (full p) c → ((d : List ℕ) × Contains (in_force p given) d × IsLess p given c d) ⊎ IsAsleep p given c

@@ -3,7 +3,7 @@ use Rattle.std.specs.Prelude.{◌≡◌, ℕ, ◌∷◌, ◌/◌, ◌^◌, ◌�
 use Rattle.gi_lit.specs.Literals.{opposite, IsWithin}
 use Rattle.gi_lit.specs.Truth.{clause_true, Satisfies, MakesTrue, IsConsequence, IsConsequenceAmong, IsImpliedAmong, Fail, FailAmong}
 use Rattle.gi_lit.specs.Closure.{IsDerivation, InClosure, Conflicts, IsConsistent, IsClosed}
-use Rattle.gi_lit.specs.Problem.{Problem, force, full, IsWellFormed, IsProblemVar, IsAssumable}
+use Rattle.gi_lit.specs.Problem.{Problem, in_force, full, IsWellFormed, IsProblemVar, IsAssumable}
 use Rattle.gi_lit.specs.Guards.{RestsOnGuards}
 use Rattle.gi_lit.specs.Learnt.{IsImplied, AreFresh}
 
@@ -45,7 +45,7 @@ ClosedListsAreFree = (clauses : List (List ℕ)) (given lits : List ℕ) → IsC
 
 -- what fails over the full clauses fails over those in force
 abbrev pub GuardsAreSound : Type 0
-GuardsAreSound = (p : Problem) (given : List ℕ) → IsWellFormed p → All (λ l. 1 ≤ l / 2) given → Fail (full p) given → Fail (force p given) given
+GuardsAreSound = (p : Problem) (given : List ℕ) → IsWellFormed p → All (λ l. 1 ≤ l / 2) given → Fail (full p) given → Fail (in_force p given) given
 
 -- in a well formed problem the law on guards holds
 abbrev pub ProblemsRestOnGuards : Type 0
@@ -53,11 +53,11 @@ ProblemsRestOnGuards = (p : Problem) (given : List ℕ) → IsWellFormed p → R
 
 -- under assumable literals the unit closure of the full clauses has the problem literals of that of the clauses in force, and no others
 abbrev pub ClosuresAgree : Type 0
-ClosuresAgree = (p : Problem) (given : List ℕ) → IsWellFormed p → All (IsAssumable p) given → (l : ℕ) → IsProblemVar p (l / 2) → InClosure (full p) given l ↔ InClosure (force p given) given l
+ClosuresAgree = (p : Problem) (given : List ℕ) → IsWellFormed p → All (IsAssumable p) given → (l : ℕ) → IsProblemVar p (l / 2) → InClosure (full p) given l ↔ InClosure (in_force p given) given l
 
 -- and the one conflicts exactly where the other does
 abbrev pub ConflictsAgree : Type 0
-ConflictsAgree = (p : Problem) (given : List ℕ) → IsWellFormed p → All (IsAssumable p) given → Conflicts (full p) given ↔ Conflicts (force p given) given
+ConflictsAgree = (p : Problem) (given : List ℕ) → IsWellFormed p → All (IsAssumable p) given → Conflicts (full p) given ↔ Conflicts (in_force p given) given
 
 -- clauses of n variables, each fresh after those before it, are at most 3^n
 abbrev pub FreshClausesAreFew : Type 0

@@ -66,8 +66,8 @@ abbrev pub guarded : Group → List ℕ
 guarded q = q.clause ++ negatives q.guards
 
 -- the clauses in force where the literals are given
-unfoldable pub force : Problem → List ℕ → List (List ℕ)
-force p given = p.plain ++ forced given p.groups
+unfoldable pub in_force : Problem → List ℕ → List (List ℕ)
+in_force p given = p.plain ++ forced given p.groups
 
 -- the full clauses: the plain ones, and each group as one clause
 unfoldable pub full : Problem → List (List ℕ)

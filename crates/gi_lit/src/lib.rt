@@ -2,20 +2,16 @@
 #![tactic(auto)]
 
 mod assign;
-mod clauses;
 mod edge;
-mod guards;
 pub mod laws;
+mod list;
 mod lit;
-mod lits;
-#[cfg(test)]
-mod tests;
+mod top;
 mod var;
 
 pub use assign::Assign;
-pub use clauses::Clauses;
 pub use edge::Edge;
-pub use guards::Guards;
+pub use list::{Clause, Clauses, Guards, List, Lits};
 pub use lit::Lit;
-pub use lits::{Clause, Lits, top_variable};
+pub use top::top_variable;
 pub use var::{MAX_VAR, Var};

@@ -2,8 +2,8 @@ use Rattle.std.proofs.Common.{◌≡◌, ◌/◌, get_or, sym, ap, ◌∙◌, ar
 use Rattle.std.proofs.lemmas.List.{take_all}
 use Rattle.gi_lit.specs.Problem.{top}
 use Rattle.gi_lit.proofs.Tops.{top-nil, top-take, top_bounds}
-use Rattle.gi_lit.proofs.lits.top_variable.Goals as goal
-use Rattle.gi_lit.proofs.lits.top_variable.Goals.{then-greatest-v, else-greatest-v}
+use Rattle.gi_lit.proofs.top.top_variable.Goals as goal
+use Rattle.gi_lit.proofs.top.top_variable.Goals.{then-greatest-v, else-greatest-v}
 
 pub loop-l-init : goal.loop-l-init
 loop-l-init c = (sym top-nil, omega arith)
