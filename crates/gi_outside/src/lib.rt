@@ -7,8 +7,6 @@ mod outbox;
 mod sending;
 mod sent;
 mod standard;
-#[cfg(test)]
-mod tests;
 
 pub use link::{Got, Link, Piece, Put};
 pub use memory::MemoryLink;

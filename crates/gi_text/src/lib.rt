@@ -8,8 +8,6 @@ mod lines;
 mod numbers;
 mod parts;
 mod queue;
-#[cfg(test)]
-mod tests;
 mod words;
 
 pub use bytes::Bytes;
