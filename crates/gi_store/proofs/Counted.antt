@@ -5,9 +5,9 @@ use Rattle.std.proofs.lemmas.List.Elements.{All-contains}
 use Rattle.slab.specs.Slab.{Slab, get, Updates}
 use Rattle.gi_lit.specs.Literals.{max_var}
 use Rattle.gi_lit.specs.Problem.{IsPlain, IsGroup, lit_count, names, negatives, without}
-use Rattle.gi_store.specs.Held.{Held, problem_of, IsWithin, with_learnt, with_new_guard, without_guard_of, trimmed}
+use Rattle.gi_store.specs.StoreView.{StoreView, problem_of, IsWithin, with_learnt, with_new_guard, without_guard_of, trimmed}
 use Rattle.gi_store.specs.declared.group_key.GroupKey.{GroupKey}
-use Rattle.gi_store.specs.Stored.{clause_at, group_at, group_length, held_of, IsKept, IsCounted}
+use Rattle.gi_store.specs.Stored.{clause_at, group_at, group_length, held_of, StoreInvariant, IsCounted}
 use Rattle.gi_store.specs.declared.kind.VarKind.{VarKind}
 use Rattle.gi_store.specs.declared.kind.VarKind.TheVariants as kind
 use Rattle.gi_store.proofs.Lists.{Contains-filter, Contains-map}
@@ -18,11 +18,11 @@ use Rattle.gi_store.proofs.Removing.{groups_left, held_trimmed}
 use Rattle.gi_store.proofs.Kept.{kept_same, kept_plain, kept_learnt, kept_group, kept_trimmed, kept_grown, grown_held, kept_next, next_held, kept_again, again_held, kept_without, without_held}
 use Rattle.gi_store.proofs.Counting.{HaveGuards, count_parts, count_plain, count_under, count_same}
 
-abbrev size_of : Held → ℕ
+abbrev size_of : StoreView → ℕ
 size_of h = lit_count (problem_of h)
 
 module _ (kinds : List VarKind) (s t : Slab (List ℕ)) (p : List ℕ) (q : List GroupKey) (l a f : List ℕ) (room n : ℕ) (i : IsCounted kinds s p q l a f room n) where
-  abbrev was : Held
+  abbrev was : StoreView
   was = held_of (length kinds) s p q l a f
 
   pub counted_same : ((k : ℕ) → get t k ≡ get s k) → IsCounted kinds t p q l a f room n
@@ -55,7 +55,7 @@ module _ (kinds : List VarKind) (s t : Slab (List ℕ)) (p : List ℕ) (q : List
   }
 
 module _ (kinds : List VarKind) (s : Slab (List ℕ)) (p : List ℕ) (q : List GroupKey) (l a f : List ℕ) (room n : ℕ) (i : IsCounted kinds s p q l a f room n) where
-  abbrev before : Held
+  abbrev before : StoreView
   before = held_of (length kinds) s p q l a f
 
   pub counted_grown : (m : ℕ) → m ≤ max_var → IsCounted (kinds ++ replicate (m - length kinds) kind.Problem) s p q l a f room n
@@ -77,7 +77,7 @@ module _ (kinds : List VarKind) (s : Slab (List ℕ)) (p : List ℕ) (q : List G
   }
 
 -- each group has a guard
-guarded_all : (kinds : List VarKind) (s : Slab (List ℕ)) (p : List ℕ) (q : List GroupKey) (l a f : List ℕ) (room : ℕ) → IsKept kinds s p q l a f room → HaveGuards s q
+guarded_all : (kinds : List VarKind) (s : Slab (List ℕ)) (p : List ℕ) (q : List GroupKey) (l a f : List ℕ) (room : ℕ) → StoreInvariant kinds s p q l a f room → HaveGuards s q
 guarded_all kinds s p q l a f room i g c =
     let x : IsGroup (problem_of (held_of (length kinds) s p q l a f)) (group_in (group_at s g)) =
     All-contains (IsGroup (problem_of (held_of (length kinds) s p q l a f))) (map group_in (map (group_at s) q)) (group_in (group_at s g)) i.whole.well_formed.groups
@@ -98,10 +98,10 @@ module _ (kinds : List VarKind) (s m t : Slab (List ℕ)) (p : List ℕ) (q : Li
   abbrev kept_learnt' : List ℕ
   kept_learnt' = filter (keeps g m) l
 
-  abbrev left_held : Held
+  abbrev left_held : StoreView
   left_held = held_of (length kinds) s p kept_groups l a f
 
-  abbrev was_held : Held
+  abbrev was_held : StoreView
   was_held = held_of (length kinds) s p q l a f
 
   pub counted_without : (more j gone : ℕ) → length f + 1 + length (without g a) ≤ more → gone + sum_by (group_length s) kept_groups ≡ sum_by (group_length s) q → j ≡ n - gone

@@ -6,7 +6,7 @@ use Rattle.std.proofs.lemmas.List.Sums.{sum_by-cons, sum_by_push}
 use Rattle.slab.specs.Slab.{Slab}
 use Rattle.slab.proofs.SlabLemmas.{Contains-cons}
 use Rattle.gi_lit.specs.Problem.{as_given, lit_count}
-use Rattle.gi_store.specs.Held.{Entry, GroupEntry, Held, problem_of, with_plain, with_under}
+use Rattle.gi_store.specs.StoreView.{Entry, GroupEntry, StoreView, problem_of, with_plain, with_under}
 use Rattle.gi_store.specs.declared.group_key.GroupKey.{GroupKey}
 use Rattle.gi_store.specs.Stored.{clause_at, entry_at, guard_part, group_at, group_length, held_of}
 use Rattle.gi_store.proofs.Lists.{Contains-head}
@@ -39,19 +39,19 @@ pub count_parts : (s : Slab (List ℕ)) (p : List ℕ) (q : List GroupKey) (l : 
 unfolding lit_count
 count_parts s p q l n a f h = ap (λ x. plain_size s p + x) (groups_sum s q h)
 
-pub count_plain : (k : ℕ) (c : List ℕ) (h : Held) → lit_count (problem_of (with_plain k c h)) ≡ lit_count (problem_of h) + length c
+pub count_plain : (k : ℕ) (c : List ℕ) (h : StoreView) → lit_count (problem_of (with_plain k c h)) ≡ lit_count (problem_of h) + length c
 unfolding lit_count
 count_plain k c h =
     let a = ap (sum_by length) (map_push lits_in h.plain (record { key = k; lits = c })) ∙ sum_by_push length (map lits_in h.plain) c in
     omega (arith, a)
 
-pub count_under : (k : ℕ) (gs c : List ℕ) (h : Held) → lit_count (problem_of (with_under k gs c h)) ≡ lit_count (problem_of h) + (length c + (length gs - 1))
+pub count_under : (k : ℕ) (gs c : List ℕ) (h : StoreView) → lit_count (problem_of (with_under k gs c h)) ≡ lit_count (problem_of h) + (length c + (length gs - 1))
 unfolding lit_count
 count_under k gs c h =
     let a = ap (sum_by as_given) (map_push group_in h.groups (record { key = k; guards = gs; clause = c })) ∙ sum_by_push as_given (map group_in h.groups) (record { guards = gs; clause = c }) in
     omega (arith, a)
 
 -- learnt clauses and guards don't count
-pub count_same : (h i : Held) → i.plain ≡ h.plain → i.groups ≡ h.groups → lit_count (problem_of i) ≡ lit_count (problem_of h)
+pub count_same : (h i : StoreView) → i.plain ≡ h.plain → i.groups ≡ h.groups → lit_count (problem_of i) ≡ lit_count (problem_of h)
 unfolding lit_count
 count_same h i a b = ap (λ (x : List Entry). sum_by length (map lits_in x) + sum_by as_given (map group_in i.groups)) a ∙ ap (λ (x : List GroupEntry). sum_by length (map lits_in h.plain) + sum_by as_given (map group_in x)) b

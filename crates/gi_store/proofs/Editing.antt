@@ -2,11 +2,11 @@
 use Rattle.std.proofs.Common.{◌≡◌, ℕ, ◌+◌, ◌/◌, List, [], ◌∷◌, ◌++◌, length, map, drop, refl, sym, ap, ◌∙◌}
 use Rattle.std.proofs.lemmas.List.{map_push, map-append, drop-map, length-map, append_assoc}
 use Rattle.gi_lit.specs.Problem.{Problem, Group, negatives, guarded, full, guard_made}
-use Rattle.gi_store.specs.Held.{Entry, GroupEntry, Held, problem_of, known_of, full_entry}
+use Rattle.gi_store.specs.StoreView.{Entry, GroupEntry, StoreView, problem_of, known_of, full_entry}
 use Rattle.gi_store.specs.Laws.{PlainIsAdded, GroupIsAdded, LearntIsAdded, GuardIsMade, GuardIsDropped, OldestAreDropped, EntriesAreClauses}
 use Rattle.gi_store.proofs.Edits.{group_in, problem_without, known_without}
 
-abbrev built : Held → List (List ℕ) → List Group → Problem
+abbrev built : StoreView → List (List ℕ) → List Group → Problem
 built h plain groups = record { vars = h.vars; plain = plain; groups = groups; active = h.active; freed = h.freed }
 
 pub plain_added : PlainIsAdded

@@ -11,7 +11,7 @@ use Rattle.gi_lit.proofs.Growing.{grows_grown, IsWellFormed-grown, IsWellFormed-
 use Rattle.gi_lit.proofs.Dropping.{IsWellFormed-dropped}
 use Rattle.gi_lit.proofs.Distinct.{filter-has, IsDistinct-apart}
 use Rattle.slab.proofs.SlabLemmas.{Contains-cons, Contains-cons_cases}
-use Rattle.gi_store.specs.Held.{Entry, GroupEntry, Held, problem_of, known_of, IsWithin, with_plain, with_under, with_learnt, with_new_guard, without_guard_of, trimmed}
+use Rattle.gi_store.specs.StoreView.{Entry, GroupEntry, StoreView, problem_of, known_of, IsWithin, with_plain, with_under, with_learnt, with_new_guard, without_guard_of, trimmed}
 use Rattle.gi_store.specs.Whole.{IsWhole, IsKind, IsTable}
 use Rattle.gi_store.specs.declared.kind.VarKind.{VarKind}
 use Rattle.gi_store.specs.declared.kind.VarKind.TheVariants as kind
@@ -27,17 +27,17 @@ abbrev pub group_in : GroupEntry → Group
 group_in q = record { guards = q.guards; clause = q.clause }
 
 -- the kinds of the same variables and guards are the same
-pub kind_same : (h i : Held) (v : ℕ) (k : VarKind) → i.vars ≡ h.vars → i.active ≡ h.active → i.freed ≡ h.freed → IsKind h v k → IsKind i v k
+pub kind_same : (h i : StoreView) (v : ℕ) (k : VarKind) → i.vars ≡ h.vars → i.active ≡ h.active → i.freed ≡ h.freed → IsKind h v k → IsKind i v k
 kind_same h i v kind.Problem a b c x = let f = var_facts (problem_of h) v x in var_from (problem_of i) v (record { low = f.low; high = rw a f.high; inactive = rw b f.inactive; unfreed = rw c f.unfreed })
 kind_same h i v kind.Active a b c x = rw b x
 kind_same h i v kind.Freed a b c x = rw c x
 kind_same h i v kind.Beyond a b c x = rw a x
 
-pub table_same : (h i : Held) (kinds : List VarKind) → i.vars ≡ h.vars → i.active ≡ h.active → i.freed ≡ h.freed → IsTable h kinds → IsTable i kinds
+pub table_same : (h i : StoreView) (kinds : List VarKind) → i.vars ≡ h.vars → i.active ≡ h.active → i.freed ≡ h.freed → IsTable h kinds → IsTable i kinds
 table_same h i kinds a b c t = record { each = λ v low high. kind_same h i v (get_or kinds (v - 1) kind.Problem) a b c (t.each v low (rw (← a) high)) }
 
 -- one clause more
-module _ (h : Held) (w : IsWhole h) (key : ℕ) (c : List ℕ) where
+module _ (h : StoreView) (w : IsWhole h) (key : ℕ) (c : List ℕ) where
   pub whole_plain : IsPlain (problem_of h) c → IsWhole (with_plain key c h)
   whole_plain p = record {
     well_formed = record {
@@ -78,7 +78,7 @@ pub known_more : (n m : ℕ) → n ≤ m → (cs : List (List ℕ)) → All (IsW
 known_more n m le cs = All-weaker (IsWithin n) (IsWithin m) (within_more n m le) cs
 
 -- more variables
-module _ (h : Held) (w : IsWhole h) (n : ℕ) (limit : n ≤ max_var) where
+module _ (h : StoreView) (w : IsWhole h) (n : ℕ) (limit : n ≤ max_var) where
   pub whole_grown : IsWhole (record h { vars = max h.vars n })
   whole_grown = record { well_formed = IsWellFormed-grown n (problem_of h) w.well_formed; limit = omega (arith, w.limit); known = known_more h.vars (max h.vars n) (omega arith) (known_of h) w.known }
 
@@ -106,18 +106,18 @@ module _ (h : Held) (w : IsWhole h) (n : ℕ) (limit : n ≤ max_var) where
       more v le kind.Beyond x = absurd (omega arith)
 
 -- an active guard goes
-pub problem_without : (g : ℕ) (h : Held) → problem_of (without_guard_of g h) ≡ without_guard g (problem_of h)
+pub problem_without : (g : ℕ) (h : StoreView) → problem_of (without_guard_of g h) ≡ without_guard g (problem_of h)
 unfolding without_groups
 problem_without g h = ap (λ (qs : List Group). make qs) (sym (filter_of_map group_in (λ (q : Group). not (has q.guards g)) h.groups))
   where
     make : List Group → Problem
     make qs = record { vars = h.vars; plain = map lits_of h.plain; groups = qs; active = without g h.active; freed = g ∷ h.freed }
 
-pub known_without : (g : ℕ) (h : Held) → known_of (without_guard_of g h) ≡ without_var g (known_of h)
+pub known_without : (g : ℕ) (h : StoreView) → known_of (without_guard_of g h) ≡ without_var g (known_of h)
 unfolding without_var
 known_without g h = sym (filter_of_map lits_of (λ c. not (names g c)) h.learnt)
 
-module _ (h : Held) (w : IsWhole h) (g : ℕ) (act : Contains h.active g) where
+module _ (h : StoreView) (w : IsWhole h) (g : ℕ) (act : Contains h.active g) where
   pub whole_without : IsWhole (without_guard_of g h)
   unfolding without_var
   whole_without = record {
@@ -155,7 +155,7 @@ module _ (h : Held) (w : IsWhole h) (g : ℕ) (act : Contains h.active g) where
       other v n kind.Beyond x = x
 
 -- a guard comes
-module _ (h : Held) (w : IsWhole h) where
+module _ (h : StoreView) (w : IsWhole h) where
   abbrev made : List ℕ → Problem
   made fs = record {
     vars = (guard_made (problem_of h) fs).vars;
@@ -179,7 +179,7 @@ module _ (h : Held) (w : IsWhole h) where
     known = rw e w.known;
   }
 
-  abbrev next_held : Held
+  abbrev next_held : StoreView
   next_held = record h { vars = h.vars + 1; active = h.active ++ (h.vars + 1) ∷ []; freed = [] }
 
   pub table_next : h.freed ≡ [] → (kinds : List VarKind) → length kinds ≡ h.vars → IsTable h kinds → IsTable next_held (kinds ++ kind.Active ∷ [])
@@ -205,7 +205,7 @@ module _ (h : Held) (w : IsWhole h) where
       more v le kind.Beyond x = absurd (omega arith)
 
   module _ (g : ℕ) (gs : List ℕ) (e : h.freed ≡ g ∷ gs) where
-    abbrev again_held : Held
+    abbrev again_held : StoreView
     again_held = record h { active = h.active ++ g ∷ []; freed = gs }
 
     in_freed : Contains h.freed g
@@ -239,11 +239,11 @@ module _ (h : Held) (w : IsWhole h) where
         other v n kind.Beyond x = x
 
 -- the older learnt clauses go
-pub whole_trimmed : (h : Held) → IsWhole h → IsWhole (trimmed h)
+pub whole_trimmed : (h : StoreView) → IsWhole h → IsWhole (trimmed h)
 whole_trimmed h w = record { well_formed = w.well_formed; limit = w.limit; known = rw (← drop-map lits_of (length h.learnt / 2) h.learnt) (All-drop (IsWithin h.vars) (length h.learnt / 2) (known_of h) w.known) }
 
 -- what is of another kind is no active guard
-pub not_active : (h : Held) → IsWhole h → (v : ℕ) (k : VarKind) → IsKind h v k → (k ≡ kind.Active → ⊥) → ¬ Contains h.active v
+pub not_active : (h : StoreView) → IsWhole h → (v : ℕ) (k : VarKind) → IsKind h v k → (k ≡ kind.Active → ⊥) → ¬ Contains h.active v
 not_active h w v kind.Problem x n m = let f = var_facts (problem_of h) v x in f.inactive m
 not_active h w v kind.Active x n m = n refl
 not_active h w v kind.Freed x n m = IsDistinct-apart h.freed h.active v w.well_formed.distinct x m

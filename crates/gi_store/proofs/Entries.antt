@@ -6,7 +6,7 @@ use Rattle.std.proofs.lemmas.List.{map_push}
 use Rattle.std.proofs.lemmas.List.Elements.{All-contains, filter-append}
 use Rattle.slab.proofs.SlabLemmas.{Contains-cons}
 use Rattle.gi_lit.specs.Problem.{has, names, negatives, IsPlain, IsGroup}
-use Rattle.gi_store.specs.Held.{Entry, GroupEntry, Held, problem_of, full_entry, entries, with_under}
+use Rattle.gi_store.specs.StoreView.{Entry, GroupEntry, StoreView, problem_of, full_entry, entries, with_under}
 use Rattle.gi_store.specs.Laws.{EntriesAreLeft}
 use Rattle.gi_store.proofs.Lists.{Contains-head, Contains-map, filter_alike, filter_of_map}
 use Rattle.gi_store.proofs.Edits.{group_in}
@@ -24,7 +24,7 @@ filter_every {X} p (x ∷ xs) h = go (p x) (h x (Contains-head x xs)) (filter_ev
     go false e r = absurd cc
 
 -- a clause under guards stands behind the groups that were there
-pub under_split : (key : ℕ) (gs c : List ℕ) (h : Held) → entries (with_under key gs c h) ≡ (h.plain ++ map full_entry h.groups) ++ record { key = key; lits = c ++ negatives gs } ∷ h.learnt
+pub under_split : (key : ℕ) (gs c : List ℕ) (h : StoreView) → entries (with_under key gs c h) ≡ (h.plain ++ map full_entry h.groups) ++ record { key = key; lits = c ++ negatives gs } ∷ h.learnt
 under_split key gs c h =
     let q : GroupEntry = record { key = key; guards = gs; clause = c } in
     ap (λ qs. h.plain ++ (qs ++ h.learnt)) (map_push full_entry h.groups q)

@@ -9,7 +9,7 @@ use Rattle.std.proofs.lemmas.Map.Steps.{length-le_from_distinct_below}
 use Rattle.std.proofs.lemmas.Map.Views.{Contains-from_any}
 use Rattle.slab.specs.Slab.{Slab, get}
 use Rattle.gi_lit.specs.Lists.{IsDistinct as HasNoneTwice}
-use Rattle.gi_store.specs.Held.{Entry, GroupEntry}
+use Rattle.gi_store.specs.StoreView.{Entry, GroupEntry}
 use Rattle.gi_store.specs.declared.group_key.GroupKey.{GroupKey}
 use Rattle.gi_store.specs.Stored.{entry_at, keys_in, group_at, held_of, AreKeys, IsStored}
 use Rattle.gi_store.proofs.Views.{some_not_none}

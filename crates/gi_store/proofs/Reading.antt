@@ -6,7 +6,7 @@ use Rattle.std.proofs.lemmas.Bool.{ne_eqb}
 use Rattle.std.proofs.lemmas.List.Elements.{Contains-append_left, Contains-append_right, Contains-append_cases}
 use Rattle.slab.specs.Slab.{Slab, get}
 use Rattle.gi_lit.specs.Lists.{IsDistinct}
-use Rattle.gi_store.specs.Held.{Entry, Held, full_entry, entries, keys_of, Holds, IsLive, at_place}
+use Rattle.gi_store.specs.StoreView.{Entry, StoreView, full_entry, entries, keys_of, Holds, IsLive, at_place}
 use Rattle.gi_store.specs.declared.group_key.GroupKey.{GroupKey}
 use Rattle.gi_store.specs.Stored.{clause_at, entry_at, keys_in, group_at, held_of, IsStored}
 use Rattle.gi_store.proofs.Lists.{Contains-map, Contains-unmap}
@@ -47,7 +47,7 @@ known_read s (y ∷ l) zero x lt e = ap (λ z. Some (clause_at s z)) e
 known_read s (y ∷ l) (suc i) x lt e = known_read s l i x (omega arith) e
 
 module _ (s : Slab (List ℕ)) (p : List ℕ) (q : List GroupKey) (l : List ℕ) (n : ℕ) (a f : List ℕ) (h : IsStored s p q l) where
-  abbrev held : Held
+  abbrev held : StoreView
   held = held_of n s p q l a f
 
   pub distinct_keys : IsDistinct (keys_of held)

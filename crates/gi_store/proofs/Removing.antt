@@ -12,7 +12,7 @@ use Rattle.gi_lit.specs.Lists.{IsDistinct}
 use Rattle.gi_lit.specs.Problem.{Problem, has, negatives, IsProblemVar, IsPlain, names, without}
 use Rattle.gi_lit.proofs.Vars.{var_facts}
 use Rattle.gi_lit.proofs.Distinct.{IsDistinct-append_left, IsDistinct-apart}
-use Rattle.gi_store.specs.Held.{Entry, GroupEntry, Held, full_entry, entries, keys_of, IsLive, Keeps, without_guard_of, trimmed, with_plain, with_under, with_learnt}
+use Rattle.gi_store.specs.StoreView.{Entry, GroupEntry, StoreView, full_entry, entries, keys_of, IsLive, Keeps, without_guard_of, trimmed, with_plain, with_under, with_learnt}
 use Rattle.gi_store.specs.declared.group_key.GroupKey.{GroupKey}
 use Rattle.gi_store.specs.Stored.{clause_at, entry_at, keys_in, guard_part, group_at, is_under, held_of, IsStored}
 use Rattle.gi_store.proofs.Lists.{filter_alike, filter_of_map, Contains-filter, Contains-map, Contains-unmap, Contains-drop, Contains-take, IsDistinct-append_right, IsDistinct-join, IsDistinct-filter, IsDistinct-drop}
@@ -137,7 +137,7 @@ module _ (s m t : Slab (List ℕ)) (p : List ℕ) (q : List GroupKey) (l : List 
   pub stored_without : IsStored t p (filter (spares g s) q) (filter (keeps g m) l)
   stored_without = rw learnt_left (stored_same s t p (filter (spares g s) q) (filter (keeps g s) l) left was)
 
-  abbrev remade : ℕ → List ℕ → List ℕ → List GroupEntry → List Entry → Held
+  abbrev remade : ℕ → List ℕ → List ℕ → List GroupEntry → List Entry → StoreView
   remade n a f x y = record { vars = n; plain = map (entry_at s) p; groups = x; active = a; freed = f; learnt = y }
 
   pub groups_left : map (group_at s) (filter (spares g s) q) ≡ filter (λ (u : GroupEntry). not (has u.guards g)) (map (group_at s) q)
@@ -175,7 +175,7 @@ module _ (s t : Slab (List ℕ)) (p : List ℕ) (q : List GroupKey) (l : List �
   pub held_trimmed : (vars : ℕ) (a f : List ℕ) → n ≡ length l / 2 → held_of vars t p q (drop n l) a f ≡ trimmed (held_of vars s p q l a f)
   held_trimmed vars a f e = held_same s t p q (drop n l) stays vars a f ∙ ap (λ (x : List Entry). make x) (sym (drop-map (entry_at s) n l) ∙ ap (λ i. drop i (map (entry_at s) l)) (e ∙ ap (λ i. i / 2) (sym (length-map l (entry_at s)))))
     where
-      make : List Entry → Held
+      make : List Entry → StoreView
       make x = record { vars = vars; plain = map (entry_at s) p; groups = map (group_at s) q; active = a; freed = reverse f; learnt = x }
 
 -- under distinct keys a key has one clause
@@ -189,7 +189,7 @@ one_clause (e ∷ es) u k c d x y = go (Contains-cons_cases e (record { key = k;
     go (inr a) (inl b) rest = absurd (u.0 (subst (Contains (map (λ (z : Entry). z.key) es)) (sym (ap (λ (z : Entry). z.key) b)) (Contains-map (λ (z : Entry). z.key) es (record { key = k; lits = c }) a)))
     go (inr a) (inr b) rest = rest a b
 
-pub keeps_fewer : (old new : Held) → IsDistinct (keys_of old) → ((e : Entry) → Contains (entries new) e → Contains (entries old) e) → Keeps old new
+pub keeps_fewer : (old new : StoreView) → IsDistinct (keys_of old) → ((e : Entry) → Contains (entries new) e → Contains (entries old) e) → Keeps old new
 keeps_fewer old new u part = record {
   each = λ k c holds live.
       let q = Contains-unmap (λ (e : Entry). e.key) (entries new) k live in
@@ -198,10 +198,10 @@ keeps_fewer old new u part = record {
       subst (λ d. Contains (entries new) (let z : Entry = record { key = k; lits = d } in z)) e (subst (λ i. Contains (entries new) (let z : Entry = record { key = i; lits = q.0.lits } in z)) q.2 q.1);
 }
 
-pub keeps_more : (old new : Held) → ((e : Entry) → Contains (entries old) e → Contains (entries new) e) → Keeps old new
+pub keeps_more : (old new : StoreView) → ((e : Entry) → Contains (entries old) e → Contains (entries new) e) → Keeps old new
 keeps_more old new more = record { each = λ k c holds live. more _ holds }
 
-pub keeps_without : (g : ℕ) (h : Held) → IsDistinct (keys_of h) → Keeps h (without_guard_of g h)
+pub keeps_without : (g : ℕ) (h : StoreView) → IsDistinct (keys_of h) → Keeps h (without_guard_of g h)
 keeps_without g h u = keeps_fewer h (without_guard_of g h) u (λ e c. elim (Contains-append_cases h.plain _ e c) [
   | inl a ↦ Contains-append_left h.plain (map full_entry h.groups ++ h.learnt) e a
   | inr r ↦ Contains-append_right h.plain (map full_entry h.groups ++ h.learnt) e (elim (Contains-append_cases (map full_entry (without_guard_of g h).groups) (without_guard_of g h).learnt e r) [
@@ -210,7 +210,7 @@ keeps_without g h u = keeps_fewer h (without_guard_of g h) u (λ e c. elim (Cont
   ])
 ])
 
-pub keeps_trimmed : (h : Held) → IsDistinct (keys_of h) → Keeps h (trimmed h)
+pub keeps_trimmed : (h : StoreView) → IsDistinct (keys_of h) → Keeps h (trimmed h)
 keeps_trimmed h u = keeps_fewer h (trimmed h) u (λ e c. elim (Contains-append_cases h.plain (map full_entry h.groups ++ drop (length h.learnt / 2) h.learnt) e c) [
   | inl a ↦ Contains-append_left h.plain (map full_entry h.groups ++ h.learnt) e a
   | inr r ↦ Contains-append_right h.plain (map full_entry h.groups ++ h.learnt) e (elim (Contains-append_cases (map full_entry h.groups) (drop (length h.learnt / 2) h.learnt) e r) [
@@ -219,13 +219,13 @@ keeps_trimmed h u = keeps_fewer h (trimmed h) u (λ e c. elim (Contains-append_c
   ])
 ])
 
-pub keeps_plain : (k : ℕ) (c : List ℕ) (h : Held) → Keeps h (with_plain k c h)
+pub keeps_plain : (k : ℕ) (c : List ℕ) (h : StoreView) → Keeps h (with_plain k c h)
 keeps_plain k c h = keeps_more h (with_plain k c h) (λ e m. elim (Contains-append_cases h.plain (map full_entry h.groups ++ h.learnt) e m) [
   | inl a ↦ Contains-append_left (h.plain ++ record { key = k; lits = c } ∷ []) (map full_entry h.groups ++ h.learnt) e (Contains-append_left h.plain (record { key = k; lits = c } ∷ []) e a)
   | inr r ↦ Contains-append_right (h.plain ++ record { key = k; lits = c } ∷ []) (map full_entry h.groups ++ h.learnt) e r
 ])
 
-pub keeps_learnt : (k : ℕ) (c : List ℕ) (h : Held) → Keeps h (with_learnt k c h)
+pub keeps_learnt : (k : ℕ) (c : List ℕ) (h : StoreView) → Keeps h (with_learnt k c h)
 keeps_learnt k c h = keeps_more h (with_learnt k c h) (λ e m. elim (Contains-append_cases h.plain (map full_entry h.groups ++ h.learnt) e m) [
   | inl a ↦ Contains-append_left h.plain (map full_entry h.groups ++ (h.learnt ++ record { key = k; lits = c } ∷ [])) e a
   | inr r ↦ Contains-append_right h.plain (map full_entry h.groups ++ (h.learnt ++ record { key = k; lits = c } ∷ [])) e (elim (Contains-append_cases (map full_entry h.groups) h.learnt e r) [
@@ -234,7 +234,7 @@ keeps_learnt k c h = keeps_more h (with_learnt k c h) (λ e m. elim (Contains-ap
   ])
 ])
 
-pub keeps_under : (k : ℕ) (gs c : List ℕ) (h : Held) → Keeps h (with_under k gs c h)
+pub keeps_under : (k : ℕ) (gs c : List ℕ) (h : StoreView) → Keeps h (with_under k gs c h)
 keeps_under k gs c h = keeps_more h (with_under k gs c h) (λ e m. elim (Contains-append_cases h.plain (map full_entry h.groups ++ h.learnt) e m) [
   | inl a ↦ Contains-append_left h.plain (map full_entry (h.groups ++ record { key = k; guards = gs; clause = c } ∷ []) ++ h.learnt) e a
   | inr r ↦ Contains-append_right h.plain (map full_entry (h.groups ++ record { key = k; guards = gs; clause = c } ∷ []) ++ h.learnt) e (elim (Contains-append_cases (map full_entry h.groups) h.learnt e r) [
@@ -247,15 +247,15 @@ keeps_under k gs c h = keeps_more h (with_under k gs c h) (λ e m. elim (Contain
 abbrev key_in : Entry → ℕ
 key_in e = e.key
 
-pub live_plain : (k : ℕ) (c : List ℕ) (h : Held) → IsLive (with_plain k c h) k
+pub live_plain : (k : ℕ) (c : List ℕ) (h : StoreView) → IsLive (with_plain k c h) k
 live_plain k c h = let e : Entry = record { key = k; lits = c } in
     Contains-map key_in (entries (with_plain k c h)) e (Contains-append_left (h.plain ++ e ∷ []) (map full_entry h.groups ++ h.learnt) e (Contains-push h.plain e))
 
-pub live_learnt : (k : ℕ) (c : List ℕ) (h : Held) → IsLive (with_learnt k c h) k
+pub live_learnt : (k : ℕ) (c : List ℕ) (h : StoreView) → IsLive (with_learnt k c h) k
 live_learnt k c h = let e : Entry = record { key = k; lits = c } in
     Contains-map key_in (entries (with_learnt k c h)) e (Contains-append_right h.plain (map full_entry h.groups ++ (h.learnt ++ e ∷ [])) e (Contains-append_right (map full_entry h.groups) (h.learnt ++ e ∷ []) e (Contains-push h.learnt e)))
 
-pub live_under : (k : ℕ) (gs c : List ℕ) (h : Held) → IsLive (with_under k gs c h) k
+pub live_under : (k : ℕ) (gs c : List ℕ) (h : StoreView) → IsLive (with_under k gs c h) k
 live_under k gs c h = let q : GroupEntry = record { key = k; guards = gs; clause = c } in
     Contains-map key_in (entries (with_under k gs c h)) (full_entry q) (Contains-append_right h.plain (map full_entry (h.groups ++ q ∷ []) ++ h.learnt) (full_entry q)
     (Contains-append_left (map full_entry (h.groups ++ q ∷ [])) h.learnt (full_entry q) (Contains-map full_entry (h.groups ++ q ∷ []) q (Contains-push h.groups q))))

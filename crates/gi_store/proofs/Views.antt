@@ -7,7 +7,7 @@ use Rattle.std.proofs.lemmas.List.{map_push, map-append, append-nil, take_at, dr
 use Rattle.std.proofs.lemmas.List.Elements.{Contains-append_left, Contains-append_right, Contains-append_cases}
 use Rattle.slab.specs.Slab.{Slab, get, Updates}
 use Rattle.gi_lit.specs.Problem.{negatives}
-use Rattle.gi_store.specs.Held.{Entry, GroupEntry, Held, full_entry, keys_of, with_plain, with_under, with_learnt}
+use Rattle.gi_store.specs.StoreView.{Entry, GroupEntry, StoreView, full_entry, keys_of, with_plain, with_under, with_learnt}
 use Rattle.gi_store.specs.declared.group_key.GroupKey.{GroupKey}
 use Rattle.gi_store.specs.Stored.{entry_at, keys_in, guard_part, group_of, group_at, held_of, AreKeys, IsStored}
 use Rattle.slab.proofs.SlabLemmas.{Contains-cons_cases}
@@ -16,7 +16,7 @@ use Rattle.gi_store.proofs.Lists.{map_same, IsDistinct-insert, Contains-insert, 
 abbrev entry_of : ℕ → Option (List ℕ) → Entry
 entry_of k o = record { key = k; lits = unwrap_or o [] }
 
-abbrev built : ℕ → List ℕ → List ℕ → List Entry → List GroupEntry → List Entry → Held
+abbrev built : ℕ → List ℕ → List ℕ → List Entry → List GroupEntry → List Entry → StoreView
 built n active freed plain groups learnt = record { vars = n; plain = plain; groups = groups; active = active; freed = reverse freed; learnt = learnt }
 
 abbrev key_in : GroupKey → ℕ

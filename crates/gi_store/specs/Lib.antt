@@ -1,4 +1,4 @@
-pub mod Held
+pub mod StoreView
 pub mod Stored
 pub mod Whole
 pub mod Laws

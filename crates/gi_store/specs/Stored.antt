@@ -3,7 +3,7 @@ use Rattle.std.specs.Prelude.{◌≡◌, ℕ, ◌+◌, ◌-◌, ◌/◌, ◌≤�
 use Rattle.slab.specs.Slab.{Slab, get}
 use Rattle.gi_lit.specs.Lists.{IsDistinct}
 use Rattle.gi_lit.specs.Problem.{lit_count, names}
-use Rattle.gi_store.specs.Held.{Entry, GroupEntry, Held, full_entry, problem_of}
+use Rattle.gi_store.specs.StoreView.{Entry, GroupEntry, StoreView, full_entry, problem_of}
 use Rattle.gi_store.specs.Whole.{IsWhole, IsTable}
 use Rattle.gi_store.specs.declared.group_key.GroupKey.{GroupKey}
 use Rattle.gi_store.specs.declared.kind.VarKind.{VarKind}
@@ -34,7 +34,7 @@ abbrev pub is_under : ℕ → Slab (List ℕ) → GroupKey → Bool
 is_under guard slab g = names guard (guard_part g.guards (clause_at slab g.key))
 
 -- the store with these lists; the guard freed last is the last of its list
-abbrev pub held_of : ℕ → Slab (List ℕ) → List ℕ → List GroupKey → List ℕ → List ℕ → List ℕ → Held
+abbrev pub held_of : ℕ → Slab (List ℕ) → List ℕ → List GroupKey → List ℕ → List ℕ → List ℕ → StoreView
 held_of vars slab plain groups learnt active freed = record {
   vars = vars;
   plain = map (entry_at slab) plain;
@@ -55,7 +55,7 @@ pub record IsStored (slab : Slab (List ℕ)) (plain : List ℕ) (groups : List G
   pub ends : (g : GroupKey) → Contains groups g → entry_at slab g.key ≡ full_entry (group_at slab g)
 
 -- all that a store keeps; each active guard has its room among the freed ones
-pub record IsKept (kinds : List VarKind) (slab : Slab (List ℕ)) (plain : List ℕ) (groups : List GroupKey) (learnt active freed : List ℕ) (room : ℕ) : Type 0 where
+pub record StoreInvariant (kinds : List VarKind) (slab : Slab (List ℕ)) (plain : List ℕ) (groups : List GroupKey) (learnt active freed : List ℕ) (room : ℕ) : Type 0 where
   pub stored : IsStored slab plain groups learnt
   pub whole : IsWhole (held_of (length kinds) slab plain groups learnt active freed)
   pub table : IsTable (held_of (length kinds) slab plain groups learnt active freed) kinds
@@ -67,5 +67,5 @@ group_length slab g = length (clause_at slab g.key) - 1
 
 -- and with its count of literals
 pub record IsCounted (kinds : List VarKind) (slab : Slab (List ℕ)) (plain : List ℕ) (groups : List GroupKey) (learnt active freed : List ℕ) (room lits : ℕ) : Type 0 where
-  pub kept : IsKept kinds slab plain groups learnt active freed room
+  pub kept : StoreInvariant kinds slab plain groups learnt active freed room
   pub count : lit_count (problem_of (held_of (length kinds) slab plain groups learnt active freed)) ≡ lits

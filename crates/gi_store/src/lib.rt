@@ -9,8 +9,6 @@ mod laws;
 mod new_guard;
 mod slots;
 mod store;
-#[cfg(test)]
-mod tests;
 
 pub use key::Key;
 pub use kind::VarKind;

@@ -1,7 +1,7 @@
 ghost use Rattle.std.specs.Prelude.{◌≡◌, ◌≢◌, ◌≤◌, ◌<◌, ◌+◌, ◌/◌, ℕ, List, [], ◌∷◌, ◌++◌, length, max, All, Contains, IfOk, OnOk, OnErr, IsTrue, ◌↔◌, option_copied};
 ghost use Rattle.gi_lit.specs.Literals.{max_var};
 ghost use Rattle.gi_lit.specs.Problem.{IsPlain, IsProblemVar, lit_count};
-ghost use Rattle.gi_store.specs.Held.{Held, Keeps, IsLive, Holds, IsWithin, problem_of, known_of, keys_of, entries, with_plain, with_under, with_learnt, without_guard_of, trimmed, at_place};
+ghost use Rattle.gi_store.specs.StoreView.{StoreView, Keeps, IsLive, Holds, IsWithin, problem_of, known_of, keys_of, entries, with_plain, with_under, with_learnt, without_guard_of, trimmed, at_place};
 ghost use Rattle.gi_store.specs.Whole.{IsWhole, IsKind};
 ghost use Rattle.gi_lit.specs.Lists.{IsDistinct};
 ghost use Rattle.gi_store.specs.Answers.{GivesGuard};
@@ -36,10 +36,10 @@ pub struct Store {
 
 impl Model for Store {
     ghost use Rattle.std.specs.Prelude.{length, vec_capacity};
-    ghost use Rattle.gi_store.specs.Held.{Held};
+    ghost use Rattle.gi_store.specs.StoreView.{StoreView};
     ghost use Rattle.gi_store.specs.Stored.{held_of, IsCounted};
 
-    ghost Value = { Held };
+    ghost Value = { StoreView };
 
     ghost view = { λ s. held_of (length s.kinds.items) s.slots s.plain.items s.groups.items s.learnt.items s.active.items s.freed.items };
 

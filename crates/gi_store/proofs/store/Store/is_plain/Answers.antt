@@ -3,7 +3,7 @@ use Rattle.std.specs.List.{All}
 use Rattle.std.proofs.lemmas.List.{get_or_read, take_all}
 use Rattle.std.proofs.lemmas.List.Elements.{All-more}
 use Rattle.gi_lit.specs.Problem.{IsProblemVar}
-use Rattle.gi_store.specs.Held.{problem_of}
+use Rattle.gi_store.specs.StoreView.{problem_of}
 use Rattle.gi_store.proofs.store.Store.is_plain.Goals as goal
 
 pub loop-l-preserved : goal.loop-l-preserved

@@ -1,7 +1,7 @@
 use Rattle.std.proofs.Common.{◌/◌, take}
 use Rattle.std.specs.List.{All}
 use Rattle.gi_lit.specs.Problem.{IsProblemVar}
-use Rattle.gi_store.specs.Held.{problem_of}
+use Rattle.gi_store.specs.StoreView.{problem_of}
 use Rattle.gi_store.proofs.store.Store.is_plain.Given as goal
 
 abbrev pub invariant-loop-l : goal.invariant-loop-l

@@ -1,5 +1,5 @@
 use Rattle.std.proofs.Common.{◌≡◌, length, sym, ◌∙◌, subst}
-use Rattle.gi_store.specs.Held.{Held, IsLive, Keeps, IsWithin}
+use Rattle.gi_store.specs.StoreView.{StoreView, IsLive, Keeps, IsWithin}
 use Rattle.gi_store.proofs.Counted.{counted_learnt, counted_same}
 use Rattle.gi_store.proofs.Views.{held_learnt, was_free}
 use Rattle.gi_store.proofs.Removing.{keeps_learnt, live_learnt}
@@ -11,7 +11,7 @@ invariant_of-self c = rw c.in_err-key.ensures.err.0 (counted_same c.self.inside.
 pub invariant_of-self-2 : goal.invariant_of-self-2
 invariant_of-self-2 c =
     let e : c.from_vec-clause.result ≡ c.args.c.now = c.from_vec-clause.ensures ∙ c.in_ok-from_slice.ensures.items in
-    rw c.in_ok-key.ensures.keys (counted_learnt c.self.inside.kinds.items c.self.inside.slots c.insert.new.slots _ _ _ _ _ _ _ c.self.invariant c.in_ok-key.key c.from_vec-clause.result c.in_ok-key.ensures.vacant c.in_ok-key.ensures.updates (subst (λ (h : Held). IsWithin h.vars c.from_vec-clause.result) (sym c.self.view_is) (subst (λ xs. IsWithin c.args.self.now.vars xs) (sym e) c.requires)))
+    rw c.in_ok-key.ensures.keys (counted_learnt c.self.inside.kinds.items c.self.inside.slots c.insert.new.slots _ _ _ _ _ _ _ c.self.invariant c.in_ok-key.key c.from_vec-clause.result c.in_ok-key.ensures.vacant c.in_ok-key.ensures.updates (subst (λ (h : StoreView). IsWithin h.vars c.from_vec-clause.result) (sym c.self.view_is) (subst (λ xs. IsWithin c.args.self.now.vars xs) (sym e) c.requires)))
 
 pub returns-clause-ok : goal.returns-clause-ok
 returns-clause-ok c =
@@ -25,4 +25,4 @@ pub returns-clause-keeps : goal.returns-clause-keeps
 returns-clause-keeps c = subst (Keeps c.args.self.now) (sym (returns-clause-ok c)) (keeps_learnt c.in_ok-key.key c.args.c.now c.args.self.now)
 
 pub returns-clause-live : goal.returns-clause-live
-returns-clause-live c = subst (λ (h : Held). IsLive h c.in_ok-key.key) (sym (returns-clause-ok c)) (live_learnt c.in_ok-key.key c.args.c.now c.args.self.now)
+returns-clause-live c = subst (λ (h : StoreView). IsLive h c.in_ok-key.key) (sym (returns-clause-ok c)) (live_learnt c.in_ok-key.key c.args.c.now c.args.self.now)

@@ -14,7 +14,7 @@ pub record GroupEntry : Type 0 where
   pub guards : List ℕ
   pub clause : List ℕ
 
-pub record Held : Type 0 where
+pub record StoreView : Type 0 where
   pub vars : ℕ  -- the variables are 1 to vars
   pub plain : List Entry
   pub groups : List GroupEntry
@@ -23,7 +23,7 @@ pub record Held : Type 0 where
   pub learnt : List Entry  -- the oldest first
 
 -- its problem
-abbrev pub problem_of : Held → Problem
+abbrev pub problem_of : StoreView → Problem
 problem_of h = record {
   vars = h.vars;
   plain = map (λ (e : Entry). e.lits) h.plain;
@@ -33,7 +33,7 @@ problem_of h = record {
 }
 
 -- its learnt clauses, the oldest first
-abbrev pub known_of : Held → List (List ℕ)
+abbrev pub known_of : StoreView → List (List ℕ)
 known_of h = map (λ (e : Entry). e.lits) h.learnt
 
 -- what is stored of a group: the clause, and the guards' negative literals behind it, in order
@@ -41,41 +41,41 @@ abbrev pub full_entry : GroupEntry → Entry
 full_entry q = record { key = q.key; lits = q.clause ++ negatives q.guards }
 
 -- all that is stored: the plain clauses, then the groups, then the learnt clauses
-abbrev pub entries : Held → List Entry
+abbrev pub entries : StoreView → List Entry
 entries h = h.plain ++ (map full_entry h.groups ++ h.learnt)
 
 -- the keys in use, in that order
-abbrev pub keys_of : Held → List ℕ
+abbrev pub keys_of : StoreView → List ℕ
 keys_of h = map (λ (e : Entry). e.key) (entries h)
 
 -- the clause is stored under the key
-abbrev pub Holds : Held → ℕ → List ℕ → Type 0
+abbrev pub Holds : StoreView → ℕ → List ℕ → Type 0
 Holds h key clause = Contains (entries h) (record { key = key; lits = clause })
 
 -- the key is in use
-abbrev pub IsLive : Held → ℕ → Type 0
+abbrev pub IsLive : StoreView → ℕ → Type 0
 IsLive h key = Contains (keys_of h) key
 
 -- no key that stays in use changes its clause
-pub record Keeps (old new : Held) : Type 0 where
+pub record Keeps (old new : StoreView) : Type 0 where
   pub each : (key : ℕ) (clause : List ℕ) → Holds old key clause → IsLive new key → Holds new key clause
 
 -- with one clause more
-abbrev pub with_plain : ℕ → List ℕ → Held → Held
+abbrev pub with_plain : ℕ → List ℕ → StoreView → StoreView
 with_plain key c h = record h { plain = h.plain ++ record { key = key; lits = c } ∷ [] }
 
-abbrev pub with_under : ℕ → List ℕ → List ℕ → Held → Held
+abbrev pub with_under : ℕ → List ℕ → List ℕ → StoreView → StoreView
 with_under key guards c h = record h { groups = h.groups ++ record { key = key; guards = guards; clause = c } ∷ [] }
 
-abbrev pub with_learnt : ℕ → List ℕ → Held → Held
+abbrev pub with_learnt : ℕ → List ℕ → StoreView → StoreView
 with_learnt key c h = record h { learnt = h.learnt ++ record { key = key; lits = c } ∷ [] }
 
 -- with one guard more
-abbrev pub with_new_guard : Held → Held
+abbrev pub with_new_guard : StoreView → StoreView
 with_new_guard h = let p = with_guard (problem_of h) in record h { vars = p.vars; active = p.active; freed = p.freed }
 
 -- an active guard freed: the groups that name it are gone, and the learnt clauses with its variable
-abbrev pub without_guard_of : ℕ → Held → Held
+abbrev pub without_guard_of : ℕ → StoreView → StoreView
 without_guard_of g h = record h {
   groups = filter (λ (q : GroupEntry). not (has q.guards g)) h.groups;
   active = without g h.active;
@@ -84,7 +84,7 @@ without_guard_of g h = record h {
 }
 
 -- the older half of the learnt clauses gone
-abbrev pub trimmed : Held → Held
+abbrev pub trimmed : StoreView → StoreView
 trimmed h = record h { learnt = drop (length h.learnt / 2) h.learnt }
 
 -- the item at a place, from 1
