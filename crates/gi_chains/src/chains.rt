@@ -215,6 +215,3 @@ fn add_seats(seats: &mut Vec<Seat>, more: usize)
         });
     }
 }
-
-#[cfg(test)]
-mod tests;
