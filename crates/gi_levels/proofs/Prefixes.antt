@@ -4,7 +4,7 @@ use Rattle.gi_levels.specs.declared.levels.Node.{Node}
 use Rattle.gi_levels.specs.declared.levels.Levels.{Levels}
 use Rattle.gi_levels.specs.declared.levels.Levels.TheVariants.{Found, Cycle}
 use Rattle.gi_levels.specs.Levels.{node_at, HasLevels, AreLevels}
-use Rattle.gi_levels.specs.Found.{Answers, is_found}
+use Rattle.gi_levels.specs.Found.{FindsLevels, is_found}
 
 pub levels_are : (nodes : List Node) (levels : List ℕ) → AreLevels nodes levels → HasLevels nodes
 levels_are nodes levels h = record { level = λ k. get_or levels k 0; falls = λ k o p. falls k o p.0 p.2 } where
@@ -20,6 +20,6 @@ pub some_nodes : (nodes : List Node) → (HasLevels (take (length nodes) nodes) 
 some_nodes [] h = absurd (h (none_has []))
 some_nodes (n ∷ ns) h = omega arith
 
-pub told : (nodes : List Node) (l : Levels) → Answers nodes l → MatchBool (is_found l) (HasLevels nodes) (HasLevels nodes → ⊥)
+pub told : (nodes : List Node) (l : Levels) → FindsLevels nodes l → MatchBool (is_found l) (HasLevels nodes) (HasLevels nodes → ⊥)
 told nodes (Found levels) h = levels_are nodes levels.items h
 told nodes Cycle h = h

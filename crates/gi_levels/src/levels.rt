@@ -1,7 +1,7 @@
 // The levels of gates that come in any order.
 ghost use Rattle.std.specs.Prelude.{◌≡◌, ◌≢◌, ◌+◌, ◌<◌, ◌≤◌, ◌∷◌, ◌++◌, [], ℕ, List, suc, max, length, slice_index, slice_index_or, slice_set, take, replicate, true, false, IfOk, OnOk, MatchBool, MatchOption, ◌-◌};
 ghost use Rattle.gi_levels.specs.Levels.{IsOperand, HasLevels, AreLevels, ClosesCycle, IsKnown, Searching, Rooted, Keeps, IsLast, Advances, Visited, node_at};
-ghost use Rattle.gi_levels.specs.Found.{Answers, is_found};
+ghost use Rattle.gi_levels.specs.Found.{FindsLevels, is_found};
 
 use std::alloc::{AllocError, Global};
 
@@ -136,7 +136,7 @@ fn new_search(alloc: Global, count: usize) -> Result<Search, AllocError>
 
 /// The levels of gates that come in any order, or that they have a cycle. Takes time by the number of gates.
 pub fn levels_of(alloc: Global, nodes: &[Node]) -> Result<Levels, AllocError>
-    ensures { IfOk result (Answers nodes.now) }
+    ensures { IfOk result (FindsLevels nodes.now) }
 {
     let mut s = new_search(alloc, nodes.len())?;
     'roots: for root in 0..nodes.len() {

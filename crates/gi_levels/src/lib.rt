@@ -8,6 +8,3 @@ mod order;
 pub use laws::{cycle_is_one, levels_are_told, order_is_whole};
 pub use levels::{Levels, Node, first_cycle, levels_of};
 pub use order::by_level;
-
-#[cfg(test)]
-mod tests;
