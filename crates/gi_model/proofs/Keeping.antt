@@ -4,7 +4,7 @@ use Rattle.std.specs.List.{All, Contains, list_any}
 use Rattle.std.proofs.lemmas.Bool.{cases_Bool, cond_both, both_ways, not-false, or_parts, or_cases, and_from, leb-false, ltb-false}
 use Rattle.std.proofs.lemmas.List.Elements.{All-append, All-cons, All-nil, All-contains, All-weaker, All-drop, Contains-get_or, Contains-append_left, Contains-append_right}
 use Rattle.std.proofs.lemmas.List.Folds.{list_any_at}
-use Rattle.gi_lit.specs.Problem.{Problem, force, has, is_usable, is_guard_lit, top, grown, with_clause, with_group, with_guard, without_guard, IsProblemVar, IsAssumable, IsLiveVar, IsWellFormed}
+use Rattle.gi_lit.specs.Problem.{Problem, in_force, has, is_usable, is_guard_lit, top, grown, with_clause, with_group, with_guard, without_guard, IsProblemVar, IsAssumable, IsLiveVar, IsWellFormed}
 use Rattle.gi_lit.specs.Learnt.{IsImplied, AreFresh}
 use Rattle.gi_lit.proofs.Vars.{usable_facts, Contains-from_has, lacks_none, var_facts}
 use Rattle.gi_lit.proofs.Growing.{Grows, IsUsable, grows_grown, IsWellFormed-grown, grows_clause, IsWellFormed-clause, grows_group, IsWellFormed-group, grows_guard, IsWellFormed-guard, assumable_grows, implied_grows, fails_more, usable_grown, Satisfies-fewer}
@@ -54,7 +54,7 @@ module _ (p q : Problem) (g : Grows p q) where
   listed_grows : (given earlier ls : List ℕ) → IsListed p given earlier ls → IsListed q given earlier ls
   listed_grows given earlier ls h = record {
     plain = All-weaker (λ m. IsProblemVar p (m / 2)) (λ m. IsProblemVar q (m / 2)) (λ m. g.vars (m / 2)) ls h.plain;
-    consequences = λ k d lt values s t. h.consequences k d lt values (Satisfies-fewer (force p given) (force q given) values (g.force given) s) t;
+    consequences = λ k d lt values s t. h.consequences k d lt values (Satisfies-fewer (in_force p given) (in_force q given) values (g.in_force given) s) t;
     causes = λ k lt. let c = h.causes k lt in (c.0, g.full c.0 c.1, c.2);
   }
 
@@ -290,7 +290,7 @@ fresh_live p known (c ∷ cs) k h = All-cons (λ c. All (λ l. IsLiveVar p (l / 
     live v (inr b) = let m = Contains-append_right p.freed p.active v b in (All-contains (λ g. 1 ≤ g) (p.freed ++ p.active) v k.low m, All-contains (λ g. g ≤ p.vars) (p.freed ++ p.active) v k.high m, λ c. IsDistinct-apart p.freed p.active v k.distinct c b)
 
 pub work_kept : (s : State) (r : Run) (mark : ℕ) (news : List (List ℕ)) (now : Now) → s.solve ≡ running r → Works s r mark news now → IsKept s → IsKept (record s { known = s.known ++ news; solve = sliced r (length news) now })
-unfolding force
+unfolding in_force
 work_kept s r mark news now e w k = record {
   clauses = k.clauses;
   within = k.within;
@@ -317,7 +317,7 @@ work_kept s r mark news now e w k = record {
     go (Ended v) = All-nil (IsAssumable s.problem)
 
     model : (values : List Bool) → IsModel s.problem r.assumed values → IsVerdictSound s.problem (Sat values)
-    model values m = (m.count, Satisfies-fewer s.problem.plain (force s.problem r.assumed) values (λ c h. Contains-append_left s.problem.plain _ c h) m.clauses)
+    model values m = (m.count, Satisfies-fewer s.problem.plain (in_force s.problem r.assumed) values (λ c h. Contains-append_left s.problem.plain _ c h) m.clauses)
 
     sound : (n : Now) → EndsWork s r mark news n → IsSolveSound s.problem s.serial (sliced r (length news) n)
     sound Live h = record { low = before.low; last = before.last; slices = (let c = before.slices in let d = h.2.0 in omega arith); left = (let a : r.spent + length news ≢ r.budget = λ q. h.1 (q, h.2) in let b = w.within in omega arith) }

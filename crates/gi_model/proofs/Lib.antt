@@ -10,3 +10,4 @@ pub mod Reasoning
 pub mod Entering
 pub mod Stepping
 pub mod Bounding
+pub mod Refusing

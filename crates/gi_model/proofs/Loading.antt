@@ -16,7 +16,7 @@ use Rattle.gi_model.proofs.Accepting.{IsAccepted}
 use Rattle.gi_model.proofs.Keeping.{all_usable, with_problem_kept}
 
 grows_same : (p : Problem) → Grows p p
-grows_same p = record { vars = λ v h. h; live = λ v h. h; active = λ g h. h; full = λ c h. h; force = λ given c h. h }
+grows_same p = record { vars = λ v h. h; live = λ v h. h; active = λ g h. h; full = λ c h. h; in_force = λ given c h. h }
 
 grows_more : (p q r : Problem) → Grows p q → Grows q r → Grows p r
 grows_more p q r a b = record {
@@ -24,7 +24,7 @@ grows_more p q r a b = record {
   live = λ v h. b.live v (a.live v h);
   active = λ g h. b.active g (a.active g h);
   full = λ c h. b.full c (a.full c h);
-  force = λ given c h. b.force given c (a.force given c h);
+  in_force = λ given c h. b.in_force given c (a.in_force given c h);
 }
 
 -- clauses of usable literals

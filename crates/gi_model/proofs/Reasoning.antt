@@ -6,7 +6,7 @@ use Rattle.std.proofs.lemmas.List.Elements.{All-append, All-cons, All-nil, All-c
 use Rattle.std.proofs.lemmas.List.Folds.{list_any-append, list_any_none}
 use Rattle.gi_lit.specs.Literals.{opposite}
 use Rattle.gi_lit.specs.Truth.{true_in, clause_true, Satisfies, IsConsequence, Fail}
-use Rattle.gi_lit.specs.Problem.{Problem, Group, are_given, forced, negatives, guarded, full, force, IsProblemVar, IsPlain, IsGroup, IsWellFormed}
+use Rattle.gi_lit.specs.Problem.{Problem, Group, are_given, forced, negatives, guarded, full, in_force, IsProblemVar, IsPlain, IsGroup, IsWellFormed}
 use Rattle.gi_lit.proofs.Guarding.{guards_sound}
 use Rattle.gi_lit.proofs.Literals.{true_in-opposite, var-opposite}
 use Rattle.gi_lit.proofs.Vars.{var_facts, Contains-from_has}
@@ -50,8 +50,8 @@ full_low p h = All-append (λ c. All (λ l. 1 ≤ l / 2) c) p.plain (map guarded
     group q a = All-append (λ l. 1 ≤ l / 2) q.clause (negatives q.guards) (low q.clause a.0)
         (All-map (λ l. 1 ≤ l / 2) (λ g. 2 * g + 1) q.guards (λ k d lt. let b = guard (get_or q.guards k d) (a.1 k d lt) in omega arith))
 
-reasons_show : (s : State) (m : ℕ) (rs : List ℕ) → IsWellFormed s.problem → IsProblemVar s.problem (m / 2) → Explains s m rs → IsConsequence (force s.problem rs) rs m
-unfolding full force
+reasons_show : (s : State) (m : ℕ) (rs : List ℕ) → IsWellFormed s.problem → IsProblemVar s.problem (m / 2) → Explains s m rs → IsConsequence (in_force s.problem rs) rs m
+unfolding full in_force
 reasons_show s m rs h pm x values sat given = go (true_in values m) refl
   where
     no_guard : All (λ (q : Group). All (λ g. 2 * g ≢ opposite m) q.guards) s.problem.groups
@@ -96,10 +96,10 @@ scopes_plain p given earlier (sc ∷ scs) h = All-append (λ m. IsProblemVar p (
     found given (listed ls) h = h.plain
     found given (failing w) h = All-nil (λ m. IsProblemVar p (m / 2))
 
-pub answered_reasons : (s : State) (m : ℕ) (rs : List ℕ) → IsKept s → Allows s (call.Reasons m) (reply.Reasons rs) → IsConsequence (force s.problem rs) rs m
+pub answered_reasons : (s : State) (m : ℕ) (rs : List ℕ) → IsKept s → Allows s (call.Reasons m) (reply.Reasons rs) → IsConsequence (in_force s.problem rs) rs m
 answered_reasons s m rs k a = go (refuses s (call.Reasons m)) refl a.replied
   where
-    go : (o : Option Refusal) → refuses s (call.Reasons m) ≡ o → Replied s (call.Reasons m) (reply.Reasons rs) o → IsConsequence (force s.problem rs) rs m
+    go : (o : Option Refusal) → refuses s (call.Reasons m) ≡ o → Replied s (call.Reasons m) (reply.Reasons rs) o → IsConsequence (in_force s.problem rs) rs m
     go (Some r) e (inl x) = absurd cc
     go (Some r) e (inr x) = absurd (cc x.0)
     go None e (inr x) = absurd (cc x.0)

@@ -2,7 +2,7 @@
 use Rattle.std.specs.Prelude.{◌≡◌, ℕ, ◌/◌, ◌<◌, ◌≤◌, List, [], ◌∷◌, ◌++◌, length, All}
 use Rattle.gi_lit.specs.Lists.{IsSublist}
 use Rattle.gi_lit.specs.Truth.{Satisfies, Fail}
-use Rattle.gi_lit.specs.Problem.{Problem, force, clause_count, lit_count, IsAssumable, IsLiveVar, IsWellFormed}
+use Rattle.gi_lit.specs.Problem.{Problem, in_force, clause_count, lit_count, IsAssumable, IsLiveVar, IsWellFormed}
 use Rattle.gi_lit.specs.Learnt.{IsImplied}
 use Rattle.gi_model.specs.Limits.{most_clauses, most_lits, most_pending, most_scopes, most_solves}
 use Rattle.gi_lit.specs.Literals.{max_var}
@@ -21,7 +21,7 @@ run_assumed (ended n v) = []
 -- what a scope lists are consequences with a cause; a failing set is of the assumptions, and fails
 abbrev pub IsFoundSound : Problem → List ℕ → List ℕ → Found → Type 0
 IsFoundSound p given earlier (listed ls) = IsListed p given earlier ls
-IsFoundSound p given earlier (failing w) = IsSublist w given × Fail (force p w) w
+IsFoundSound p given earlier (failing w) = IsSublist w given × Fail (in_force p w) w
 
 -- each scope over the assumptions and the lists of those before it
 abbrev pub AreScopesSound : Problem → List ℕ → List ℕ → List Scope → Type 0
@@ -38,7 +38,7 @@ pub record IsRunSound (serial : ℕ) (r : Run) : Type 0 where
 -- a model has a value for each variable and satisfies the plain clauses; a failing set fails
 abbrev pub IsVerdictSound : Problem → Verdict → Type 0
 IsVerdictSound p (Sat values) = (length values ≡ p.vars) × Satisfies values p.plain
-IsVerdictSound p (Unsat w) = Fail (force p w) w
+IsVerdictSound p (Unsat w) = Fail (in_force p w) w
 IsVerdictSound p (Unknown c) = Unit {0}
 
 abbrev pub IsSolveSound : Problem → ℕ → Solve → Type 0

@@ -1,7 +1,7 @@
 -- Laws over the definitions.
 use Rattle.std.specs.Prelude.{◌≡◌, ◌≢◌, ℕ, ◌/◌, true, Some, List, [], ◌∷◌, ◌++◌, All, Contains}
 use Rattle.gi_lit.specs.Truth.{IsConsequence}
-use Rattle.gi_lit.specs.Problem.{Group, force, full}
+use Rattle.gi_lit.specs.Problem.{Group, in_force, full}
 use Rattle.gi_lit.specs.Learnt.{IsImplied}
 use Rattle.gi_model.specs.State.{State, opening, scope_assumed, phase_of}
 use Rattle.gi_model.specs.Fits.{fits}
@@ -52,7 +52,7 @@ GuardsAreClean = (es : List Entry) (g : ℕ) → IsLegal es → Allows (after_al
 
 -- a literal is a consequence of its reasons and the clauses in force under them
 abbrev pub ReasonsShow : Type 0
-ReasonsShow = (es : List Entry) (m : ℕ) (rs : List ℕ) → IsLegal es → let s = after_all opening es in Allows s (Reasons m) (reply.Reasons rs) → IsConsequence (force s.problem rs) rs m
+ReasonsShow = (es : List Entry) (m : ℕ) (rs : List ℕ) → IsLegal es → let s = after_all opening es in Allows s (Reasons m) (reply.Reasons rs) → IsConsequence (in_force s.problem rs) rs m
 
 -- a refusal is the one that the table names
 abbrev pub RefusalsAreNamed : Type 0

@@ -14,3 +14,5 @@ pub mod Kept
 pub mod Laws
 pub mod Told
 pub mod Bound
+pub mod Views
+pub mod Early

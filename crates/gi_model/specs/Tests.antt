@@ -4,7 +4,7 @@ use Rattle.gi_lit.specs.Literals.{opposite}
 use Rattle.gi_lit.specs.Lists.{IsSublist, IsDistinct}
 use Rattle.gi_lit.specs.Truth.{IsConsequence, Fail}
 use Rattle.gi_lit.specs.Closure.{Forces, InClosure, Conflicts}
-use Rattle.gi_lit.specs.Problem.{Problem, force, full, has, IsProblemVar}
+use Rattle.gi_lit.specs.Problem.{Problem, in_force, full, has, IsProblemVar}
 use Rattle.gi_model.specs.State.{State, Scope, Found, listed, failing, listed_in, scope_listed, all_assumed}
 use Rattle.gi_model.specs.declared.replies.Reply.{Reply}
 use Rattle.gi_model.specs.declared.replies.Reply.TheVariants as reply
@@ -25,7 +25,7 @@ HasCause p earlier m = (c : List ℕ) × Contains (full p) c × Forces c m earli
 -- with these assumptions, after these listed literals, these may be listed: problem literals, each a consequence and each with a cause
 pub record IsListed (p : Problem) (given earlier ls : List ℕ) : Type 0 where
   pub plain : All (λ m. IsProblemVar p (m / 2)) ls
-  pub consequences : All (IsConsequence (force p given) given) ls
+  pub consequences : All (IsConsequence (in_force p given) given) ls
   pub causes : (k : ℕ) → k < length ls → HasCause p (given ++ (earlier ++ take k ls)) (slice_index ls k)
 
 -- what a test lists: none twice, none that was there, and all of the unit closure
@@ -33,16 +33,16 @@ pub record Implies (p : Problem) (given earlier ls : List ℕ) : Type 0 where
   pub distinct : IsDistinct ls
   pub new : All (λ m. ¬ Contains (given ++ earlier) m) ls
   pub listed : IsListed p given earlier ls
-  pub covers : (m : ℕ) → InClosure (force p given) given m → Contains (given ++ (earlier ++ ls)) m
+  pub covers : (m : ℕ) → InClosure (in_force p given) given m → Contains (given ++ (earlier ++ ls)) m
 
 -- the unit closure conflicts, or a scope's test failed before
 abbrev pub MustFail : State → Type 0
-MustFail s = Conflicts (force s.problem (all_assumed s)) (all_assumed s) ⊎ SomeFailed s.scopes
+MustFail s = Conflicts (in_force s.problem (all_assumed s)) (all_assumed s) ⊎ SomeFailed s.scopes
 
 -- the answer to a test: failing assumptions exactly where it must fail, else what it lists
 abbrev pub AnswersTest : State → Reply → Type 0
 AnswersTest s (reply.Implied ls) = ¬ MustFail s × Implies s.problem (all_assumed s) (scope_listed s.scopes) ls
-AnswersTest s (reply.Failed w) = MustFail s × IsSublist w (all_assumed s) × Fail (force s.problem w) w
+AnswersTest s (reply.Failed w) = MustFail s × IsSublist w (all_assumed s) × Fail (in_force s.problem w) w
 AnswersTest s answer = ⊥
 
 -- the assumptions up to the scope that lists m, and what is listed before m
