@@ -1,5 +1,0 @@
-use Rattle.gi_plain.proofs.Leaving.{HasMet}
-use Rattle.gi_plain.proofs.lists.is_sublist.Given as goal
-
-abbrev pub invariant-loop-l : goal.invariant-loop-l
-invariant-loop-l l = HasMet l.part l.whole l.met l.l-index

@@ -1,4 +1,0 @@
-use Rattle.gi_plain.proofs.truth.+fails_from.Given as goal
-
-abbrev pub decreases-fails_from : goal.decreases-fails_from
-decreases-fails_from l = l.free

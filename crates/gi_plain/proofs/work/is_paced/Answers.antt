@@ -1,6 +1,0 @@
-use Rattle.std.proofs.Common.{◌+◌}
-use Rattle.gi_plain.proofs.Working.{paced_decides}
-use Rattle.gi_plain.proofs.work.is_paced.Goals as goal
-
-pub returns : goal.returns
-returns c = paced_decides (c.args.place + 1) c.luby.result c.args.news.now c.is_at_most.result c.luby.ensures c.is_at_most.ensures

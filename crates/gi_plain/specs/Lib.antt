@@ -1,8 +1,0 @@
-pub mod Found
-pub mod View
-pub mod Lacking
-pub mod Search
-pub mod Ends
-pub mod Waits
-pub mod Loading
-pub mod Rest
