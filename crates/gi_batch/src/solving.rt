@@ -1,0 +1,100 @@
+// Files, solved.
+ghost use Rattle.std.specs.Prelude.{◌≡◌, ◌≤◌};
+ghost use Rattle.gi_batch.specs.Solves.{PrintsRefusal, Solves, solved_of};
+
+use crate::answer::{Answer, Solved, Stop};
+use crate::steps::{solve_cnf, solve_icnf};
+use gi_dimacs::CnfFault;
+use gi_files::{CnfInput, Form, IcnfInput, read_cnf, read_icnf, write_refused};
+use gi_net::Caller;
+use gi_outside::{Link, Sent};
+use std::alloc::Global;
+
+/// Reads a file to its end, makes the calls of its solves, and prints the answer of each before the next is begun.
+///
+/// For CNF these are the variables, each clause in order, and one solve; for iCNF, item by item, a clause, or an ask's
+/// assumptions and a solve. A solve has the budget, is waited for, and asks for the model where there is one. It prints
+/// `s SATISFIABLE` and the model's literals in `v` lines, `s UNSATISFIABLE` or `s UNKNOWN`. An input that is refused prints
+/// `refused LINE CODE`. The budget is at least 1.
+///
+/// `ReadFault` and `WriteFault` come only where that count of the link rose, `TooMuch` only after 2^62 bytes or where no call
+/// was left for the next one, and `Denied` only where the last call was refused or answered otherwise than it is. Whatever the
+/// end, the calls that were made are a front of those of the file, and their output was written, but for `WriteFault`.
+pub fn solve<C: Caller, L: Link>(
+    alloc: Global,
+    form: Form,
+    budget: u32,
+    caller: &mut C,
+    user: &mut L,
+) -> Solved
+    requires { 1 ≤ budget }
+    ensures { Solves result form budget (L.state user.old) (L.state user.new) (C.standing caller.old) (C.standing caller.new) }
+{
+    match form {
+        Form::Cnf => solve_cnf_file(alloc, budget, caller, user),
+        Form::Icnf => solve_icnf_file(alloc, budget, caller, user),
+    }
+}
+
+// Solves a CNF file.
+fn solve_cnf_file<C: Caller, L: Link>(
+    alloc: Global,
+    budget: u32,
+    caller: &mut C,
+    user: &mut L,
+) -> Solved
+    requires { 1 ≤ budget }
+    ensures { Solves result Form.Cnf budget (L.state user.old) (L.state user.new) (C.standing caller.old) (C.standing caller.new) }
+{
+    match read_cnf(alloc, user) {
+        CnfInput::Cnf(cnf) => solved(solve_cnf(cnf, budget, caller, user)),
+        CnfInput::Refused(fault) => refuse(fault, user),
+        CnfInput::NoMemory => Solved::NoMemory,
+        CnfInput::ReadFault => Solved::ReadFault,
+        CnfInput::TooMuch => Solved::TooMuch,
+    }
+}
+
+// Solves an iCNF file.
+fn solve_icnf_file<C: Caller, L: Link>(
+    alloc: Global,
+    budget: u32,
+    caller: &mut C,
+    user: &mut L,
+) -> Solved
+    requires { 1 ≤ budget }
+    ensures { Solves result Form.Icnf budget (L.state user.old) (L.state user.new) (C.standing caller.old) (C.standing caller.new) }
+{
+    match read_icnf(alloc, user) {
+        IcnfInput::Icnf(icnf) => solved(solve_icnf(&icnf, budget, caller, user)),
+        IcnfInput::Refused(fault) => refuse(fault, user),
+        IcnfInput::NoMemory => Solved::NoMemory,
+        IcnfInput::ReadFault => Solved::ReadFault,
+        IcnfInput::TooMuch => Solved::TooMuch,
+    }
+}
+
+// The end that tells what came of a file's steps.
+fn solved(came: Result<Answer, Stop>) -> Solved
+    ensures { result ≡ solved_of came }
+{
+    match came {
+        Ok(Answer::Sat) => Solved::Sat,
+        Ok(Answer::Unsat) => Solved::Unsat,
+        Ok(Answer::Unknown) => Solved::Unknown,
+        Err(Stop::NoMemory) => Solved::NoMemory,
+        Err(Stop::WriteFault) => Solved::WriteFault,
+        Err(Stop::TooMuch) => Solved::TooMuch,
+        Err(Stop::Denied) => Solved::Denied,
+    }
+}
+
+// Prints the refusal of an input.
+fn refuse<L: Link>(fault: CnfFault, user: &mut L) -> Solved
+    ensures { PrintsRefusal result fault (L.state user.old) (L.state user.new) }
+{
+    match write_refused(fault, user) {
+        Sent::Done => Solved::Refused(fault),
+        Sent::Failed => Solved::WriteFault,
+    }
+}

@@ -1,5 +1,0 @@
-use Rattle.gi_solving.proofs.Telling.{asks_written}
-use Rattle.gi_solving.proofs.laws.asks_are_written.Goals as goal
-
-pub returns : goal.returns
-returns c = asks_written

@@ -1,7 +1,0 @@
-use Rattle.std.proofs.Common.{sym}
-use Rattle.gi_solving.proofs.Growing.{made_entry}
-use Rattle.gi_solving.proofs.Doing.{fails_after}
-use Rattle.gi_solving.proofs.making.make.Goals as goal
-
-pub returns-in-Some : goal.returns-in-Some
-returns-in-Some g c = fails_after c.reply.result.now c.in-Some.stop c.args.call _ _ (sym c.in-Some.ensures) (made_entry c.args.call _ c.reply.result.now _ _ c.requires c.in-Entry.ensures.makes c.reply.ensures)
