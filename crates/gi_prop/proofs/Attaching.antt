@@ -5,9 +5,9 @@ use Rattle.std.proofs.lemmas.Bool.{cases_eq}
 use Rattle.std.proofs.lemmas.List.{append-nil}
 use Rattle.std.proofs.lemmas.List.Elements.{All-contains}
 use Rattle.gi_lit.specs.Literals.{max_var, IsLiteral}
-use Rattle.gi_store.specs.Held.{Held, Holds, IsWithin}
+use Rattle.gi_store.specs.StoreView.{StoreView, Holds, IsWithin}
 use Rattle.gi_chains.specs.Lists.{Lists, IsFree, IsApart}
-use Rattle.gi_prop.specs.Assigned.{Assigned}
+use Rattle.gi_prop.specs.TrailView.{TrailView}
 use Rattle.gi_prop.specs.Attached.{Attached, IsAttached, Goes, HasSameKeys, HasWatches, KeepsWatches, HasTwoLeft, Attaches}
 use Rattle.gi_prop.specs.Watched.{IsIn, IsBlocker, IsPlaced, IsKeyed}
 use Rattle.gi_prop.specs.Watched.IsPlaced.{watched, aside}
@@ -40,7 +40,7 @@ pub home_lists : (lits clause : List ℕ) (x y lists : ℕ) → All (λ l. l + 1
 home_lists lits clause x y lists h le (two a b ex ey p n m) = let s = All-contains (λ l. l + 1 < lists) clause a h p.first in let t = All-contains (λ l. l + 1 < lists) clause b h p.second in (omega arith, omega arith)
 home_lists lits clause x y lists h le (rests e i n) = let s = aside_low clause x i in (omega arith, omega arith)
 
-pub home_placed : (first second : Lists) (t : Assigned) (h1 h2 key : ℕ) (clause : List ℕ) (x y : ℕ) → IsIn first x key → IsIn second y key → AreHome t.lits clause x y → IsPlaced first second t h1 h2 key clause
+pub home_placed : (first second : Lists) (t : TrailView) (h1 h2 key : ℕ) (clause : List ℕ) (x y : ℕ) → IsIn first x key → IsIn second y key → AreHome t.lits clause x y → IsPlaced first second t h1 h2 key clause
 home_placed first second t h1 h2 key clause x y hx hy (two a b ex ey p n m) = watched a b (subst (λ (z : ℕ). IsIn first z key) ex hx) (subst (λ (z : ℕ). IsIn second z key) ey hy) p (guarded_free t h1 clause a n) (guarded_free t h2 clause b m)
 home_placed first second t h1 h2 key clause x y hx hy (rests e i n) = aside x hx (subst (λ (z : ℕ). IsIn second z key) (sym e) hy) i
 
@@ -53,7 +53,7 @@ more_attached p q m e = record {
 
 -- more room, with the same keys
 module _ (p q : Attached) (m : ℕ) (e : q.slots ≡ p.slots ++ replicate m None) (first : HasMore p.first q.first) (second : HasMore p.second q.second) where
-  pub goes_more : (s : Held) (t : Assigned) → Goes p s t → Goes q s t
+  pub goes_more : (s : StoreView) (t : TrailView) → Goes p s t → Goes q s t
   goes_more s t g = goes_by q s t (λ k h. keyed_chains p.first p.second q.first q.second s t t.head t.head k first.lists second.lists (λ l x. first.kept l k x) (λ l x. second.kept l k x) (first.words k) (second.words k) (goes_keyed p s t g k ((more_attached p q m e).others k h)))
 
   pub watches_more : (k : ℕ) → KeepsWatches p q k
@@ -107,7 +107,7 @@ kept_put slots first second first' second' x y key lt a b k = record {
 
 -- one key more
 module _ (p q : Attached) (m : ℕ) (first second : Lists) (x y key : ℕ) (slots : List (Option ℕ)) (lt : key < length slots) (more : slots ≡ p.slots ++ replicate m None) (is : q.slots ≡ set slots key (Some key)) (a : HasMore p.first first) (b : HasMore p.second second) (pa : IsPut first q.first x key) (pb : IsPut second q.second y key) where
-  pub goes_attached : (s : Held) (t : Assigned) → IsKeyed q.first q.second s t t.head t.head key → Goes p s t → Goes q s t
+  pub goes_attached : (s : StoreView) (t : TrailView) → IsKeyed q.first q.second s t t.head t.head key → Goes p s t → Goes q s t
   goes_attached s t own g = goes_by q s t (λ k h. elim (cases_eq k key) [
     | inl e ↦ subst (IsKeyed q.first q.second s t t.head t.head) (sym e) own
     | inr n ↦
@@ -193,7 +193,7 @@ module _ (p q : Attached) (x y key : ℕ) (a : IsAttaching p q x y key) where
   pub attaching_kept : AreKept p.slots p.first p.second → AreKept q.slots q.first q.second
   attaching_kept k = subst (λ (xs : List (Option ℕ)). AreKept xs q.first q.second) (sym a.is) (kept_put a.slots a.first a.second q.first q.second x y key a.below a.first_put a.second_put (kept_more p.slots a.slots a.m p.first p.second a.first a.second a.more a.first_more a.second_more k))
 
-  pub attaching_goes : (s : Held) (t : Assigned) → IsKeyed q.first q.second s t t.head t.head key → Goes p s t → Goes q s t
+  pub attaching_goes : (s : StoreView) (t : TrailView) → IsKeyed q.first q.second s t t.head t.head key → Goes p s t → Goes q s t
   attaching_goes s t own g = goes_attached p q a.m a.first a.second x y key a.slots a.below a.more a.is a.first_more a.second_more a.first_put a.second_put s t own g
 
   pub attaching_others : (k : ℕ) → k ≢ key → KeepsWatches p q k
@@ -206,7 +206,7 @@ module _ (p q : Attached) (x y key : ℕ) (a : IsAttaching p q x y key) where
   attaching_attaches r e = attaches p.slots a.slots a.m key a.below a.more r q e a.is
 
   -- its clause is watched
-  pub attaching_keyed : (s : Held) (t : Assigned) (clause : List ℕ) (top : ℕ) → Holds s key clause → IsWithin t.vars clause → All (λ l. l / 2 ≤ top) clause → top ≤ max_var → 2 * top + 3 ≤ length a.first.lists → 2 * top + 3 ≤ length a.second.lists → AreHome t.lits clause x y → IsKeyed q.first q.second s t t.head t.head key
+  pub attaching_keyed : (s : StoreView) (t : TrailView) (clause : List ℕ) (top : ℕ) → Holds s key clause → IsWithin t.vars clause → All (λ l. l / 2 ≤ top) clause → top ≤ max_var → 2 * top + 3 ≤ length a.first.lists → 2 * top + 3 ≤ length a.second.lists → AreHome t.lits clause x y → IsKeyed q.first q.second s t t.head t.head key
   attaching_keyed s t clause top held within tops high lf ls home = record {
     clause = clause;
     held = held;

@@ -4,9 +4,9 @@ use Rattle.std.proofs.lemmas.List.Elements.{All-contains}
 use Rattle.gi_lit.specs.Literals.{opposite, IsLiteral}
 use Rattle.gi_lit.specs.Closure.{IsSettled}
 use Rattle.gi_lit.specs.Closure.IsSettled.{has_true}
-use Rattle.gi_store.specs.Held.{Held, Holds}
+use Rattle.gi_store.specs.StoreView.{StoreView, Holds}
 use Rattle.gi_chains.specs.Lists.{IsApart}
-use Rattle.gi_prop.specs.Assigned.{Assigned, IsTrail}
+use Rattle.gi_prop.specs.TrailView.{TrailView, IsTrail}
 use Rattle.gi_prop.specs.Attached.{Attached, IsAttached, Goes, Watches, HasWatches, HasTwoLeft, AreOfClause, AreWatched, AreSettled, IsConflict}
 use Rattle.gi_prop.specs.Watched.{IsPair, IsPlaced, IsKeyed}
 use Rattle.gi_prop.specs.Watched.IsPlaced.{watched, aside}
@@ -19,17 +19,17 @@ use Rattle.gi_prop.proofs.Slots.{attached_at, attached_by, attached_same}
 use Rattle.gi_prop.proofs.Watches.{one_left}
 
 -- what a propagator that goes with a store and a trail keeps
-pub watched_goes : (p : Attached) (s : Held) (t : Assigned) → AreKept p.slots p.first p.second → IsTrail t → Goes p s t → IsWatched p.slots p.first p.second s t t.head t.head
+pub watched_goes : (p : Attached) (s : StoreView) (t : TrailView) → AreKept p.slots p.first p.second → IsTrail t → Goes p s t → IsWatched p.slots p.first p.second s t t.head t.head
 watched_goes p s t kept trail g = record { kept = kept; trail = trail; keyed = λ k h. goes_keyed p s t g k (attached_by p k h) }
 
-pub goes_watched : (p : Attached) (s : Held) (t : Assigned) → IsWatched p.slots p.first p.second s t t.head t.head → Goes p s t
+pub goes_watched : (p : Attached) (s : StoreView) (t : TrailView) → IsWatched p.slots p.first p.second s t t.head t.head → Goes p s t
 goes_watched p s t w = goes_by p s t (λ k h. w.keyed k (attached_at p k h))
 
 -- no key has two clauses in a store
-abbrev pub HasOnly : Held → Type 0
+abbrev pub HasOnly : StoreView → Type 0
 HasOnly s = (k : ℕ) (c d : List ℕ) → Holds s k c → Holds s k d → c ≡ d
 
-module _ (p : Attached) (s : Held) (t : Assigned) (only : HasOnly s) (w : IsWatched p.slots p.first p.second s t t.head t.head) (all : length t.lits ≤ t.head) (passed : (list : ℕ) → list < 3 → ArePassed p.first s t.lits list) where
+module _ (p : Attached) (s : StoreView) (t : TrailView) (only : HasOnly s) (w : IsWatched p.slots p.first p.second s t t.head t.head) (all : length t.lits ≤ t.head) (passed : (list : ℕ) → list < 3 → ArePassed p.first s t.lits list) where
   -- each attached clause is settled
   pub are_settled : AreSettled p s t.lits
   are_settled = record { each = λ key clause h held. let k = w.keyed key (attached_at p key h) in subst (IsSettled t.lits) (only key k.clause clause k.held held) (go key k.clause k.held k.placed) }
@@ -75,7 +75,7 @@ module _ (p : Attached) (s : Held) (t : Assigned) (only : HasOnly s) (w : IsWatc
           subst (λ (c : List ℕ). (l : ℕ) × Contains c l × Contains t.lits l) (only key k.clause clause k.held held) (go key a b k.clause k.placed ws f)
 
 -- what watches two literals does so still where no node came into a list that is no literal's
-pub watches_stay : (p q : Attached) (s : Held) (t : Assigned) (h1 h2 key : ℕ) → IsApart p.first → IsWatched q.slots q.first q.second s t h1 h2 → IsAttached q key → LeavesAside p.first q.first → HasWatches p key → HasWatches q key
+pub watches_stay : (p q : Attached) (s : StoreView) (t : TrailView) (h1 h2 key : ℕ) → IsApart p.first → IsWatched q.slots q.first q.second s t h1 h2 → IsAttached q key → LeavesAside p.first q.first → HasWatches p key → HasWatches q key
 watches_stay p q s t h1 h2 key apart w h x ws = go (w.keyed key (attached_at q key h))
   where
     pick : (k : IsKeyed q.first q.second s t h1 h2 key) → IsPlaced q.first q.second t h1 h2 key k.clause → HasWatches q key
@@ -90,7 +90,7 @@ watches_stay p q s t h1 h2 key apart w h x ws = go (w.keyed key (attached_at q k
     go k = pick k k.placed
 
 -- the two are different literals of the clause
-pub watches_of : (p : Attached) (s : Held) (t : Assigned) (key a b : ℕ) → IsApart p.first → IsApart p.second → IsAttached p key → Goes p s t → Watches p key a b → AreOfClause s key a b
+pub watches_of : (p : Attached) (s : StoreView) (t : TrailView) (key a b : ℕ) → IsApart p.first → IsApart p.second → IsAttached p key → Goes p s t → Watches p key a b → AreOfClause s key a b
 watches_of p s t key a b fa sa h g ws = go (goes_keyed p s t g key h)
   where
     pick : (k : IsKeyed p.first p.second s t t.head t.head key) → IsPlaced p.first p.second t t.head t.head key k.clause → AreOfClause s key a b
@@ -110,5 +110,5 @@ watches_of p s t key a b fa sa h g ws = go (goes_keyed p s t g key h)
     go k = pick k k.placed
 
 -- the keys alone matter
-pub conflict_keys : (p q : Attached) (s : Held) (lits : List ℕ) (key : ℕ) → q.slots ≡ p.slots → IsConflict p s lits key → IsConflict q s lits key
+pub conflict_keys : (p q : Attached) (s : StoreView) (lits : List ℕ) (key : ℕ) → q.slots ≡ p.slots → IsConflict p s lits key → IsConflict q s lits key
 conflict_keys p q s lits key e x = record { attached = attached_same p q key e x.attached; clause = x.clause; held = x.held; falsified = x.falsified }

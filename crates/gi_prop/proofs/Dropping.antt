@@ -2,9 +2,9 @@ use Rattle.std.proofs.Common.{◌≡◌, ◌≢◌, ℕ, zero, suc, ◌+◌, ◌
 use Rattle.std.specs.List.{remove}
 use Rattle.std.proofs.lemmas.Bool.{cases_lt, cases_eq}
 use Rattle.std.proofs.lemmas.List.Edits.{length-remove, get_or-remove_below, get_or-remove_above}
-use Rattle.gi_store.specs.Held.{Held}
+use Rattle.gi_store.specs.StoreView.{StoreView}
 use Rattle.gi_chains.specs.Lists.{Lists, items_at, StandsAt, IsApart, with_list}
-use Rattle.gi_prop.specs.Assigned.{Assigned}
+use Rattle.gi_prop.specs.TrailView.{TrailView}
 use Rattle.gi_prop.specs.Attached.{Attached, Goes, KeepsWatches}
 use Rattle.gi_prop.specs.Watched.{IsIn}
 use Rattle.gi_prop.specs.Watching.{AreLinked, AreKept}
@@ -111,7 +111,7 @@ kept_drop slots first second first' second' key lt a b k = record {
 }
 
 module _ (p q : Attached) (key : ℕ) (lt : key < length p.slots) (is : q.slots ≡ set p.slots key None) (a : IsDropped p.first q.first key) (b : IsDropped p.second q.second key) where
-  pub goes_drop : (s : Held) (t : Assigned) → Goes p s t → Goes q s t
+  pub goes_drop : (s : StoreView) (t : TrailView) → Goes p s t → Goes q s t
   goes_drop s t g = goes_by q s t (λ k h.
       let r = slot_from p.slots key lt k (ap (λ (xs : List (Option ℕ)). get_or xs k None) (sym is) ∙ attached_at q k h) in
       let la : length q.first.lists ≡ length p.first.lists = a.lists in

@@ -9,7 +9,7 @@ use Rattle.gi_lit.specs.Literals.{opposite}
 use Rattle.gi_lit.specs.Closure.{IsSettled}
 use Rattle.gi_lit.specs.Closure.IsSettled.{has_true, has_two}
 use Rattle.gi_lit.proofs.Literals.{var-opposite}
-use Rattle.gi_prop.specs.Assigned.{Assigned, IsTrail, IsLate, AreLevels, with_level, cut_at}
+use Rattle.gi_prop.specs.TrailView.{TrailView, IsTrail, IsLate, AreLevels, with_level, cut_at}
 use Rattle.gi_prop.specs.Watched.{HasTrueWith, IsGuarded, IsPair}
 
 -- a literal stands in a list or not
@@ -21,7 +21,7 @@ known xs x = go (list_any (nat_eq x) xs) refl
     go false e = inr (λ h. both_ways _ e (list_any_at (nat_eq x) xs h.0 x h.1 (eq-eqb x (get_or xs h.0 x) (sym h.2))))
 
 -- a false watch of a clause all of whose looks were done has a true literal beside it
-pub false_true : (t : Assigned) (clause : List ℕ) (w : ℕ) → length t.lits ≤ t.head → IsGuarded t t.head clause w → Contains t.lits (opposite w) → (l : ℕ) × Contains clause l × Contains t.lits l
+pub false_true : (t : TrailView) (clause : List ℕ) (w : ℕ) → length t.lits ≤ t.head → IsGuarded t t.head clause w → Contains t.lits (opposite w) → (l : ℕ) × Contains clause l × Contains t.lits l
 false_true t clause w le g k =
     let e : get_or t.lits k.0 0 ≡ opposite w = get_or_default t.lits k.0 0 (opposite w) k.1 ∙ k.2 in
     let kl : k.0 < length t.lits = k.1 in
@@ -29,7 +29,7 @@ false_true t clause w le g k =
     (get_or t.lits q.at 0, q.stands, Contains-get_or t.lits q.at 0 q.below)
 
 -- where all of the trail was looked at, a watched clause is settled
-pub watched_settled : (t : Assigned) (clause : List ℕ) (a b : ℕ) → length t.lits ≤ t.head → IsPair clause a b → IsGuarded t t.head clause a → IsGuarded t t.head clause b → IsSettled t.lits clause
+pub watched_settled : (t : TrailView) (clause : List ℕ) (a b : ℕ) → length t.lits ≤ t.head → IsPair clause a b → IsGuarded t t.head clause a → IsGuarded t t.head clause b → IsSettled t.lits clause
 watched_settled t clause a b le h ga gb = go (known t.lits (opposite a)) (known t.lits (opposite b))
   where
     by : (w : ℕ) → IsGuarded t t.head clause w → Contains t.lits (opposite w) → IsSettled t.lits clause
@@ -41,7 +41,7 @@ watched_settled t clause a b le h ga gb = go (known t.lits (opposite a)) (known 
     go (inr n) (inr m) = has_two a b h.first h.second h.differ n m
 
 -- literals behind those that were looked at
-pub guarded_extends : (t u : Assigned) (more : List ℕ) (head : ℕ) (clause : List ℕ) (w : ℕ) → u.lits ≡ t.lits ++ more → u.marks ≡ t.marks → u.heads ≡ t.heads → head ≤ length t.lits → IsGuarded t head clause w → IsGuarded u head clause w
+pub guarded_extends : (t u : TrailView) (more : List ℕ) (head : ℕ) (clause : List ℕ) (w : ℕ) → u.lits ≡ t.lits ++ more → u.level_starts ≡ t.level_starts → u.qheads ≡ t.qheads → head ≤ length t.lits → IsGuarded t head clause w → IsGuarded u head clause w
 guarded_extends t u more head clause w el em eh le g = record {
   each = λ p ph pl e.
       let lt : p < length t.lits = omega arith in
@@ -57,35 +57,35 @@ guarded_extends t u more head clause w el em eh le g = record {
 }
 
 -- a new level
-pub guarded_level : (t : Assigned) (clause : List ℕ) (w : ℕ) → length t.heads ≡ length t.marks → IsGuarded t t.head clause w → IsGuarded (with_level t) t.head clause w
+pub guarded_level : (t : TrailView) (clause : List ℕ) (w : ℕ) → length t.qheads ≡ length t.level_starts → IsGuarded t t.head clause w → IsGuarded (with_level t) t.head clause w
 guarded_level t clause w al g = record { each = λ p ph pl e. let q = g.each p ph pl e in record { at = q.at; below = q.below; stands = q.stands; stays = stays' p q } }
   where
-    stays' : (p : ℕ) (q : HasTrueWith t clause p) → (j : ℕ) → j < length (with_level t).marks → p < get_or (with_level t).heads j 0 → q.at < get_or (with_level t).marks j 0
-    stays' p q j jl = elim (cases_lt j (length t.marks)) [
-      | inl below ↦ rw (get_or_append_left t.marks (length t.lits ∷ []) 0 j below, get_or_append_left t.heads (t.head ∷ []) 0 j (subst (λ (z : ℕ). j < z) (sym al) below)) (q.stays j below)
-      | inr le ↦ rw (get_or_push t.marks (length t.lits) 0 j (let x : length t.marks ≡ j = omega (arith, length-append t.marks (length t.lits ∷ [])) in x)) (λ _. q.below)
+    stays' : (p : ℕ) (q : HasTrueWith t clause p) → (j : ℕ) → j < length (with_level t).level_starts → p < get_or (with_level t).qheads j 0 → q.at < get_or (with_level t).level_starts j 0
+    stays' p q j jl = elim (cases_lt j (length t.level_starts)) [
+      | inl below ↦ rw (get_or_append_left t.level_starts (length t.lits ∷ []) 0 j below, get_or_append_left t.qheads (t.head ∷ []) 0 j (subst (λ (z : ℕ). j < z) (sym al) below)) (q.stays j below)
+      | inr le ↦ rw (get_or_push t.level_starts (length t.lits) 0 j (let x : length t.level_starts ≡ j = omega (arith, length-append t.level_starts (length t.lits ∷ [])) in x)) (λ _. q.below)
     ]
 
 -- what was there when a level began
-pub guarded_cut : (t : Assigned) (clause : List ℕ) (w level : ℕ) → AreLevels t.lits t.marks t.head t.heads → level < length t.marks → IsGuarded t t.head clause w → IsGuarded (cut_at level t) (cut_at level t).head clause w
+pub guarded_cut : (t : TrailView) (clause : List ℕ) (w level : ℕ) → AreLevels t.lits t.level_starts t.head t.qheads → level < length t.level_starts → IsGuarded t t.head clause w → IsGuarded (cut_at level t) (cut_at level t).head clause w
 guarded_cut t clause w level v lt g = record {
   each = λ p ph pl e.
-      let within : get_or t.marks level 0 ≤ length t.lits = v.within level lt in
-      let len : length (take (get_or t.marks level 0) t.lits) ≡ get_or t.marks level 0 = length-take-le (get_or t.marks level 0) t.lits within in
-      let low : p < get_or t.marks level 0 = omega arith in
-      let head : get_or t.heads level 0 ≤ t.head = v.looked level lt in
-      let q = g.each p (omega arith) (omega arith) (sym (get_or-take (get_or t.marks level 0) t.lits p 0 low) ∙ e) in
-      let ql : q.at < get_or t.marks level 0 = q.stays level lt ph in
+      let within : get_or t.level_starts level 0 ≤ length t.lits = v.within level lt in
+      let len : length (take (get_or t.level_starts level 0) t.lits) ≡ get_or t.level_starts level 0 = length-take-le (get_or t.level_starts level 0) t.lits within in
+      let low : p < get_or t.level_starts level 0 = omega arith in
+      let head : get_or t.qheads level 0 ≤ t.head = v.looked level lt in
+      let q = g.each p (omega arith) (omega arith) (sym (get_or-take (get_or t.level_starts level 0) t.lits p 0 low) ∙ e) in
+      let ql : q.at < get_or t.level_starts level 0 = q.stays level lt ph in
       record {
         at = q.at;
         below = subst (λ (n : ℕ). q.at < n) (sym len) ql;
-        stands = rw (get_or-take (get_or t.marks level 0) t.lits q.at 0 ql) q.stands;
-        stays = λ j jl. let b : j < level = omega (arith, length-take level t.marks) in rw (get_or-take level t.marks j 0 b, get_or-take level t.heads j 0 b) (q.stays j (omega arith));
+        stands = rw (get_or-take (get_or t.level_starts level 0) t.lits q.at 0 ql) q.stands;
+        stays = λ j jl. let b : j < level = omega (arith, length-take level t.level_starts) in rw (get_or-take level t.level_starts j 0 b, get_or-take level t.qheads j 0 b) (q.stays j (omega arith));
       };
 }
 
 -- one literal more, which isn't the watch's opposite
-pub guarded_more : (t : Assigned) (clause : List ℕ) (w head : ℕ) → get_or t.lits head 0 ≢ opposite w → IsGuarded t head clause w → IsGuarded t (head + 1) clause w
+pub guarded_more : (t : TrailView) (clause : List ℕ) (w head : ℕ) → get_or t.lits head 0 ≢ opposite w → IsGuarded t head clause w → IsGuarded t (head + 1) clause w
 guarded_more t clause w head ne g = record {
   each = λ p ph pl e. elim (cases_lt p head) [
     | inl below ↦ g.each p below pl e
@@ -94,7 +94,7 @@ guarded_more t clause w head ne g = record {
 }
 
 -- the literal at the head, where a literal of the clause is true
-pub guarded_true : (t : Assigned) (clause : List ℕ) (w q : ℕ) → AreLevels t.lits t.marks t.head t.heads → q < length t.lits → Contains clause (get_or t.lits q 0) → IsGuarded t t.head clause w → IsGuarded t (t.head + 1) clause w
+pub guarded_true : (t : TrailView) (clause : List ℕ) (w q : ℕ) → AreLevels t.lits t.level_starts t.head t.qheads → q < length t.lits → Contains clause (get_or t.lits q 0) → IsGuarded t t.head clause w → IsGuarded t (t.head + 1) clause w
 guarded_true t clause w q v ql c g = record {
   each = λ p ph pl e. elim (cases_lt p t.head) [
     | inl below ↦ g.each p below pl e
@@ -103,23 +103,23 @@ guarded_true t clause w q v ql c g = record {
 }
 
 -- a watch that isn't false
-pub guarded_free : (t : Assigned) (head : ℕ) (clause : List ℕ) (w : ℕ) → (Contains t.lits (opposite w) → ⊥) → IsGuarded t head clause w
+pub guarded_free : (t : TrailView) (head : ℕ) (clause : List ℕ) (w : ℕ) → (Contains t.lits (opposite w) → ⊥) → IsGuarded t head clause w
 guarded_free t head clause w n = record { each = λ p ph pl e. absurd (n (subst (Contains t.lits) e (Contains-get_or t.lits p 0 pl))) }
 
 -- of less of the trail
-pub guarded_less : (t : Assigned) (head less : ℕ) (clause : List ℕ) (w : ℕ) → less ≤ head → IsGuarded t head clause w → IsGuarded t less clause w
+pub guarded_less : (t : TrailView) (head less : ℕ) (clause : List ℕ) (w : ℕ) → less ≤ head → IsGuarded t head clause w → IsGuarded t less clause w
 guarded_less t head less clause w le g = record { each = λ p ph. g.each p (omega arith) }
 
 -- how much of it was looked at now is no part of it
-pub guarded_as : (t u : Assigned) (head n : ℕ) (clause : List ℕ) (w : ℕ) → u ≡ record t { head = n } → IsGuarded t head clause w → IsGuarded u head clause w
-guarded_as t u head n clause w e g = subst (λ (z : Assigned). IsGuarded z head clause w) (sym e) (record { each = λ p ph pl q. let r = g.each p ph pl q in record { at = r.at; below = r.below; stands = r.stands; stays = r.stays } })
+pub guarded_as : (t u : TrailView) (head n : ℕ) (clause : List ℕ) (w : ℕ) → u ≡ record t { head = n } → IsGuarded t head clause w → IsGuarded u head clause w
+guarded_as t u head n clause w e g = subst (λ (z : TrailView). IsGuarded z head clause w) (sym e) (record { each = λ p ph pl q. let r = g.each p ph pl q in record { at = r.at; below = r.below; stands = r.stands; stays = r.stays } })
 
 -- a watch that is true
-pub guarded_own : (t : Assigned) (head : ℕ) (clause : List ℕ) (w : ℕ) → IsTrail t → Contains t.lits w → IsGuarded t head clause w
+pub guarded_own : (t : TrailView) (head : ℕ) (clause : List ℕ) (w : ℕ) → IsTrail t → Contains t.lits w → IsGuarded t head clause w
 guarded_own t head clause w tr h = guarded_free t head clause w (λ k. tr.consistent.each w h k)
 
 -- a watch whose variable got its value late, where another literal of the clause is true
-pub guarded_late : (t : Assigned) (head : ℕ) (clause : List ℕ) (w l : ℕ) → IsTrail t → Contains clause l → Contains t.lits l → IsLate t (w / 2) → IsGuarded t head clause w
+pub guarded_late : (t : TrailView) (head : ℕ) (clause : List ℕ) (w l : ℕ) → IsTrail t → Contains clause l → Contains t.lits l → IsLate t (w / 2) → IsGuarded t head clause w
 guarded_late t head clause w l tr h k late = record {
   each = λ p ph pl e.
       let names : get_or t.lits p 0 / 2 ≡ get_or t.lits late.place 0 / 2 = ap (λ (x : ℕ). x / 2) e ∙ var-opposite w ∙ sym late.stands.names in
@@ -129,8 +129,8 @@ guarded_late t head clause w l tr h k late = record {
         below = k.1;
         stands = subst (Contains clause) (sym (get_or_default t.lits k.0 0 l k.1 ∙ k.2)) h;
         stays = λ j jl lt.
-            let al : length t.heads ≡ length t.marks = tr.levels.aligned in
-            let below : get_or t.heads j 0 ≤ late.place = late.late j 0 (omega arith) in
+            let al : length t.qheads ≡ length t.level_starts = tr.levels.aligned in
+            let below : get_or t.qheads j 0 ≤ late.place = late.late j 0 (omega arith) in
             absurd (omega arith);
       };
 }

@@ -3,7 +3,7 @@ use Rattle.std.specs.List.{Contains}
 use Rattle.std.proofs.Common.{map}
 use Rattle.std.proofs.lemmas.List.{get_or-map, length-map}
 use Rattle.gi_lit.specs.Lists.{IsDistinct}
-use Rattle.gi_store.specs.Held.{Entry, Held, entries, keys_of}
+use Rattle.gi_store.specs.StoreView.{Entry, StoreView, entries, keys_of}
 use Rattle.gi_prop.proofs.Closing.{HasOnly}
 
 key_in : (es : List Entry) (k : ℕ) (c : List ℕ) → Contains es (record { key = k; lits = c }) → Contains (map (λ (e : Entry). e.key) es) k
@@ -18,5 +18,5 @@ only_in (e ∷ es) distinct k c d (zero, lx, ex) (suc j, ly, ey) = absurd (disti
 only_in (e ∷ es) distinct k c d (suc i, lx, ex) (zero, ly, ey) = absurd (distinct.0 (subst (Contains (map (λ (z : Entry). z.key) es)) (sym (ap (λ (z : Entry). z.key) ey)) (key_in es k c (i, omega arith, ex))))
 only_in (e ∷ es) distinct k c d (suc i, lx, ex) (suc j, ly, ey) = only_in es distinct.1 k c d (i, omega arith, ex) (j, omega arith, ey)
 
-pub has_only : (s : Held) → IsDistinct (keys_of s) → HasOnly s
+pub has_only : (s : StoreView) → IsDistinct (keys_of s) → HasOnly s
 has_only s distinct k c d x y = only_in (entries s) distinct k c d x y

@@ -18,3 +18,4 @@ pub mod Attaching
 pub mod Dropping
 pub mod Closing
 pub mod Holding
+pub mod Fronts

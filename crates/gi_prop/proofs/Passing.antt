@@ -4,9 +4,9 @@ use Rattle.std.specs.Prelude.{IfNone, IfSome}
 use Rattle.std.proofs.lemmas.Bool.{cases_eq, cases_lt}
 use Rattle.std.proofs.lemmas.List.Elements.{All-contains, Contains-append_left}
 use Rattle.gi_lit.specs.Literals.{opposite, IsLiteral}
-use Rattle.gi_store.specs.Held.{Held, Holds, IsWithin}
+use Rattle.gi_store.specs.StoreView.{StoreView, Holds, IsWithin}
 use Rattle.gi_chains.specs.Lists.{Lists, items_at, StandsAt, IsApart}
-use Rattle.gi_prop.specs.Assigned.{Assigned, IsTrail, HasValue, with_lit}
+use Rattle.gi_prop.specs.TrailView.{TrailView, IsTrail, HasValue, with_lit}
 use Rattle.gi_prop.specs.Attached.{AddsForced, keys_alone}
 use Rattle.gi_prop.specs.Watched.{IsGuarded, IsIn, IsPair, IsBlocker, IsPlaced, IsKeyed}
 use Rattle.gi_prop.specs.Watched.IsPlaced.{watched, aside}
@@ -18,7 +18,7 @@ use Rattle.gi_prop.proofs.Settling.{watched_push}
 use Rattle.gi_prop.proofs.Visiting.{IsWalking, standing, walked_past, walk_on, walk_gone, added_on}
 
 -- a clause that watches nothing
-pub record IsAtAside (first second : Lists) (s : Held) (t : Assigned) (list key : ℕ) : Type 0 where
+pub record IsAtAside (first second : Lists) (s : StoreView) (t : TrailView) (list key : ℕ) : Type 0 where
   pub clause : List ℕ
   pub held : Holds s key clause
   pub within : IsWithin t.vars clause
@@ -27,7 +27,7 @@ pub record IsAtAside (first second : Lists) (s : Held) (t : Assigned) (list key 
   pub second_lists : All (λ l. l + 1 < length second.lists) clause
   pub there : IsIn second list key
 
-pub at_aside : (slots : List (Option ℕ)) (first second : Lists) (s : Held) (t : Assigned) (h1 h2 list key : ℕ) → IsWatched slots first second s t h1 h2 → list < 3 → IsIn first list key → IsAtAside first second s t list key
+pub at_aside : (slots : List (Option ℕ)) (first second : Lists) (s : StoreView) (t : TrailView) (h1 h2 list key : ℕ) → IsWatched slots first second s t h1 h2 → list < 3 → IsIn first list key → IsAtAside first second s t list key
 at_aside slots first second s t h1 h2 list key w low here = let k = w.keyed key (w.kept.first_linked.attached key list here) in go k k.placed
   where
     go : (k : IsKeyed first second s t h1 h2 key) → IsPlaced first second t h1 h2 key k.clause → IsAtAside first second s t list key
@@ -48,7 +48,7 @@ at_aside slots first second s t h1 h2 list key w low here = let k = w.keyed key 
         }
 
 -- both nodes go to the lists of two literals that are guarded
-module _ (slots : List (Option ℕ)) (first second first' second' : Lists) (s : Held) (t : Assigned) (head list node : ℕ) (w : IsWatched slots first second s t head head) (low : list < 3) (here : IsIn first list node) (at : IsAtAside first second s t list node) (a b : ℕ) (pair : IsPair at.clause a b) (a_guarded : IsGuarded t head at.clause a) (b_guarded : IsGuarded t head at.clause b) where
+module _ (slots : List (Option ℕ)) (first second first' second' : Lists) (s : StoreView) (t : TrailView) (head list node : ℕ) (w : IsWatched slots first second s t head head) (low : list < 3) (here : IsIn first list node) (at : IsAtAside first second s t list node) (a b : ℕ) (pair : IsPair at.clause a b) (a_guarded : IsGuarded t head at.clause a) (b_guarded : IsGuarded t head at.clause b) where
   pub first_exists : a + 1 < length first.lists
   first_exists = All-contains (λ l. l + 1 < length first.lists) at.clause a at.first_lists pair.first
 
@@ -113,16 +113,16 @@ some_true lits l true h n = h
 some_true lits l false h n = absurd (n h)
 
 -- where a literal was added the others are false still
-pub others_pushed : (t u : Assigned) (clause : List ℕ) (l : ℕ) (why : Option ℕ) → u ≡ with_lit l why t → AreOthersFalse t.lits clause l → AreOthersFalse u.lits clause l
-others_pushed t u clause l why e others = λ k d kl. elim (others k d kl) [ inl x ↦ inl x | inr x ↦ inr (subst (λ (z : Assigned). Contains z.lits (opposite (get_or clause k d))) (sym e) (Contains-append_left t.lits (l ∷ []) _ x)) ]
+pub others_pushed : (t u : TrailView) (clause : List ℕ) (l : ℕ) (why : Option ℕ) → u ≡ with_lit l why t → AreOthersFalse t.lits clause l → AreOthersFalse u.lits clause l
+others_pushed t u clause l why e others = λ k d kl. elim (others k d kl) [ inl x ↦ inl x | inr x ↦ inr (subst (λ (z : TrailView). Contains z.lits (opposite (get_or clause k d))) (sym e) (Contains-append_left t.lits (l ∷ []) _ x)) ]
 
-pub forced_aside : (slots : List (Option ℕ)) (a b : Lists) (s : Held) (t u : Assigned) (l : ℕ) (why : Option ℕ) → IsWatched slots a b s t t.head t.head → u ≡ with_lit l why t → IsTrail u → IsWatched slots a b s u u.head u.head
+pub forced_aside : (slots : List (Option ℕ)) (a b : Lists) (s : StoreView) (t u : TrailView) (l : ℕ) (why : Option ℕ) → IsWatched slots a b s t t.head t.head → u ≡ with_lit l why t → IsTrail u → IsWatched slots a b s u u.head u.head
 forced_aside slots a b s t u l why w e trail =
-    let head : u.head ≡ t.head = ap (λ (z : Assigned). z.head) e in
+    let head : u.head ≡ t.head = ap (λ (z : TrailView). z.head) e in
     subst (λ (n : ℕ). IsWatched slots a b s u n n) (sym head) (watched_push slots a b s t t.head t.head w l why u e trail w.trail.levels.high w.trail.levels.high)
 
 -- a longer trail
-pub passed_longer : (slots : List (Option ℕ)) (s : Held) (t u : Assigned) (key : ℕ) → AddsForced (keys_alone slots) s t u → IsPassed s t.lits key → IsPassed s u.lits key
+pub passed_longer : (slots : List (Option ℕ)) (s : StoreView) (t u : TrailView) (key : ℕ) → AddsForced (keys_alone slots) s t u → IsPassed s t.lits key → IsPassed s u.lits key
 passed_longer slots s t u key e p = record {
   clause = p.clause;
   held = p.held;
@@ -137,11 +137,11 @@ passed_longer slots s t u key e p = record {
     more : (m : ℕ) → Contains t.lits m → Contains u.lits m
     more m h = subst (λ (z : List ℕ). Contains z m) (sym e.lits) (Contains-append_left t.lits e.more m h)
 
-pub passed_on : (slots : List (Option ℕ)) (first first' : Lists) (s : Held) (t u : Assigned) (list : ℕ) → list < 3 → LeavesAside first first' → AddsForced (keys_alone slots) s t u → ArePassed first s t.lits list → ArePassed first' s u.lits list
+pub passed_on : (slots : List (Option ℕ)) (first first' : Lists) (s : StoreView) (t u : TrailView) (list : ℕ) → list < 3 → LeavesAside first first' → AddsForced (keys_alone slots) s t u → ArePassed first s t.lits list → ArePassed first' s u.lits list
 passed_on slots first first' s t u list low x e p = record { each = λ k h. passed_longer slots s t u k e (p.each k (x.each list k low h)) }
 
 -- where a pass over one list stands: what is before the place was seen to
-pub record IsPassing (slots : List (Option ℕ)) (old_first old_second first second : Lists) (s : Held) (old t : Assigned) (list : ℕ) (at : Option ℕ) : Type 0 where
+pub record IsPassing (slots : List (Option ℕ)) (old_first old_second first second : Lists) (s : StoreView) (old t : TrailView) (list : ℕ) (at : Option ℕ) : Type 0 where
   pub watched : IsWatched slots first second s t t.head t.head
   pub added : IsAdded slots s old t
   pub first_aside : LeavesAside old_first first
@@ -151,7 +151,7 @@ pub record IsPassing (slots : List (Option ℕ)) (old_first old_second first sec
   pub walking : IsWalking first list at place
   pub done : (j k : ℕ) → j < place → StandsAt first.lists list j k → IsPassed s t.lits k
 
-module _ (slots : List (Option ℕ)) (old_first old_second first second : Lists) (s : Held) (old t : Assigned) (list : ℕ) (at : Option ℕ) (v : IsPassing slots old_first old_second first second s old t list at) where
+module _ (slots : List (Option ℕ)) (old_first old_second first second : Lists) (s : StoreView) (old t : TrailView) (list : ℕ) (at : Option ℕ) (v : IsPassing slots old_first old_second first second s old t list at) where
   -- the end of the list
   pub all_passed : at ≡ None → ArePassed first s t.lits list
   all_passed e = record {
@@ -161,7 +161,7 @@ module _ (slots : List (Option ℕ)) (old_first old_second first second : Lists)
         v.done x.place k (omega arith) x.stands;
   }
 
-  module _ (node : ℕ) (is : at ≡ Some node) (next : Option ℕ) (next_is : next ≡ slice_get (items_at first.lists list) (v.place + 1)) (first' second' : Lists) (u : Assigned) (w : IsWatched slots first' second' s u u.head u.head) (e : IsAdded slots s t u) (x : LeavesAside second second') where
+  module _ (node : ℕ) (is : at ≡ Some node) (next : Option ℕ) (next_is : next ≡ slice_get (items_at first.lists list) (v.place + 1)) (first' second' : Lists) (u : TrailView) (w : IsWatched slots first' second' s u u.head u.head) (e : IsAdded slots s t u) (x : LeavesAside second second') where
     -- the nodes stay
     pub pass_kept : (first' ≡ first) × IsPassed s u.lits node → IsPassing slots old_first old_second first' second' s old u list next
     pass_kept q = record {
@@ -203,7 +203,7 @@ module _ (slots : List (Option ℕ)) (old_first old_second first second : Lists)
         }
 
 -- no node is in a list that isn't there
-pub none_passed : (first : Lists) (s : Held) (lits : List ℕ) (list : ℕ) → length first.lists ≤ list → ArePassed first s lits list
+pub none_passed : (first : Lists) (s : StoreView) (lits : List ℕ) (list : ℕ) → length first.lists ≤ list → ArePassed first s lits list
 none_passed first s lits list le = record { each = λ k x. absurd (let z = x.stands.list in omega arith) }
 
 -- what follows where nothing is given
@@ -216,7 +216,7 @@ if_some None P Q f h = tt
 if_some (Some x) P Q f h = f x h
 
 -- three lists, one after the other
-pub lists_passed : (slots : List (Option ℕ)) (a b c : Lists) (s : Held) (t u v : Assigned) → LeavesAside a b → LeavesAside b c → AddsForced (keys_alone slots) s t u → AddsForced (keys_alone slots) s u v → ArePassed a s t.lits 2 → ArePassed b s u.lits 1 → ArePassed c s v.lits 0 → (list : ℕ) → list < 3 → ArePassed c s v.lits list
+pub lists_passed : (slots : List (Option ℕ)) (a b c : Lists) (s : StoreView) (t u v : TrailView) → LeavesAside a b → LeavesAside b c → AddsForced (keys_alone slots) s t u → AddsForced (keys_alone slots) s u v → ArePassed a s t.lits 2 → ArePassed b s u.lits 1 → ArePassed c s v.lits 0 → (list : ℕ) → list < 3 → ArePassed c s v.lits list
 lists_passed slots a b c s t u v x y e f p2 p1 p0 zero low = p0
 lists_passed slots a b c s t u v x y e f p2 p1 p0 (suc zero) low = passed_on slots b c s u v 1 (omega arith) y f p1
 lists_passed slots a b c s t u v x y e f p2 p1 p0 (suc (suc zero)) low = passed_on slots b c s u v 2 (omega arith) y f (passed_on slots a b s t u 2 (omega arith) x e p2)

@@ -5,9 +5,9 @@ use Rattle.std.proofs.lemmas.List.{get_or_push, get_or_default, get_or_append_le
 use Rattle.std.proofs.lemmas.List.Elements.{All-contains, Contains-get_or}
 use Rattle.gi_lit.specs.Literals.{opposite, IsLiteral}
 use Rattle.gi_lit.specs.Closure.{Forces}
-use Rattle.gi_store.specs.Held.{Held, Holds, IsWithin}
+use Rattle.gi_store.specs.StoreView.{StoreView, Holds, IsWithin}
 use Rattle.gi_chains.specs.Lists.{Lists, StandsAt, IsApart, with_word}
-use Rattle.gi_prop.specs.Assigned.{Assigned, IsTrail, with_lit}
+use Rattle.gi_prop.specs.TrailView.{TrailView, IsTrail, with_lit}
 use Rattle.gi_prop.specs.Attached.{keys_alone}
 use Rattle.gi_prop.specs.Watched.{IsGuarded, IsIn, IsPair, IsBlocker, IsAside, IsPlaced, IsKeyed}
 use Rattle.gi_prop.specs.Watched.IsPlaced.{watched, aside}
@@ -25,7 +25,7 @@ aside_low clause list (single e a h s) = omega arith
 aside_low clause list (empty e n) = omega arith
 
 -- a clause that watches f on our side
-pub record IsAtWatch (ours theirs : Lists) (s : Held) (t : Assigned) (h1 h2 f key : ℕ) : Type 0 where
+pub record IsAtWatch (ours theirs : Lists) (s : StoreView) (t : TrailView) (h1 h2 f key : ℕ) : Type 0 where
   pub clause : List ℕ
   pub held : Holds s key clause
   pub within : IsWithin t.vars clause
@@ -40,7 +40,7 @@ pub record IsAtWatch (ours theirs : Lists) (s : Held) (t : Assigned) (h1 h2 f ke
   pub our_blocker : IsBlocker clause (get_or ours.words key 0)
   pub their_blocker : IsBlocker clause (get_or theirs.words key 0)
 
-pub at_watch : (ours theirs : Lists) (s : Held) (t : Assigned) (h1 h2 f key : ℕ) → IsApart ours → IsIn ours (f + 1) key → 2 ≤ f → IsKeyed ours theirs s t h1 h2 key → IsAtWatch ours theirs s t h1 h2 f key
+pub at_watch : (ours theirs : Lists) (s : StoreView) (t : TrailView) (h1 h2 f key : ℕ) → IsApart ours → IsIn ours (f + 1) key → 2 ≤ f → IsKeyed ours theirs s t h1 h2 key → IsAtWatch ours theirs s t h1 h2 f key
 at_watch ours theirs s t h1 h2 f key apart here low k = go k.placed
   where
     go : IsPlaced ours theirs t h1 h2 key k.clause → IsAtWatch ours theirs s t h1 h2 f key
@@ -67,7 +67,7 @@ at_watch ours theirs s t h1 h2 f key apart here low k = go k.placed
         let small : l < 3 = aside_low k.clause l i in
         absurd (omega arith)
 
-module _ (ours theirs : Lists) (s : Held) (t : Assigned) (h1 h2 f key : ℕ) (w : IsAtWatch ours theirs s t h1 h2 f key) where
+module _ (ours theirs : Lists) (s : StoreView) (t : TrailView) (h1 h2 f key : ℕ) (w : IsAtWatch ours theirs s t h1 h2 f key) where
   pub other_literal : IsLiteral w.other
   other_literal = All-contains IsLiteral w.clause w.other w.literals w.pair.second
 
@@ -106,42 +106,42 @@ module _ (ours theirs : Lists) (s : Held) (t : Assigned) (h1 h2 f key : ℕ) (w 
   }
 
 -- the literal at the head makes the other false
-pub looking_false : (t : Assigned) (f : ℕ) → IsLooking t f → Contains t.lits (opposite f)
+pub looking_false : (t : TrailView) (f : ℕ) → IsLooking t f → Contains t.lits (opposite f)
 looking_false t f lk = subst (Contains t.lits) lk.is (Contains-get_or t.lits t.head 0 lk.below)
 
-pub not_false_differs : (t : Assigned) (f m : ℕ) → IsLooking t f → ¬ Contains t.lits (opposite m) → m ≢ f
+pub not_false_differs : (t : TrailView) (f m : ℕ) → IsLooking t f → ¬ Contains t.lits (opposite m) → m ≢ f
 not_false_differs t f m lk n e = n (subst (λ (z : ℕ). Contains t.lits (opposite z)) (sym e) (looking_false t f lk))
 
 -- where a literal of the clause is true, the watch is guarded further
-pub guarded_kept : (t : Assigned) (clause : List ℕ) (f l : ℕ) → IsTrail t → Contains clause l → Contains t.lits l → IsGuarded t t.head clause f → IsGuarded t (t.head + 1) clause f
+pub guarded_kept : (t : TrailView) (clause : List ℕ) (f l : ℕ) → IsTrail t → Contains clause l → Contains t.lits l → IsGuarded t t.head clause f → IsGuarded t (t.head + 1) clause f
 guarded_kept t clause f l tr h k g = guarded_true t clause f k.0 tr.levels k.1 (subst (Contains clause) (sym (get_or_default t.lits k.0 0 l k.1 ∙ k.2)) h) g
 
-pub added_none : (slots : List (Option ℕ)) (s : Held) (t : Assigned) → IsAdded slots s t t
+pub added_none : (slots : List (Option ℕ)) (s : StoreView) (t : TrailView) → IsAdded slots s t t
 added_none slots s t = record { adds = AddsForced-refl (keys_alone slots) s t; head = refl }
 
 -- a literal more, forced by a clause of a key that is attached
-module _ (slots : List (Option ℕ)) (ours theirs : Lists) (s : Held) (t : Assigned) (h1 h2 : ℕ) (w : IsWatched slots ours theirs s t h1 h2) (l : ℕ) (why : Option ℕ) (u : Assigned) (added : u ≡ with_lit l why t) (trail : IsTrail u) where
+module _ (slots : List (Option ℕ)) (ours theirs : Lists) (s : StoreView) (t : TrailView) (h1 h2 : ℕ) (w : IsWatched slots ours theirs s t h1 h2) (l : ℕ) (why : Option ℕ) (u : TrailView) (added : u ≡ with_lit l why t) (trail : IsTrail u) where
   pub keyed_push : (k g1 g2 : ℕ) → g1 ≤ length t.lits → g2 ≤ length t.lits → IsKeyed ours theirs s t g1 g2 k → IsKeyed ours theirs s u g1 g2 k
-  keyed_push k g1 g2 le le' = subst (λ (z : Assigned). IsKeyed ours theirs s t g1 g2 k → IsKeyed ours theirs s z g1 g2 k) (sym added) (keyed_trail ours theirs s t (with_lit l why t) g1 g2 g1 g2 k (omega arith) (λ c v g. guarded_extends t (with_lit l why t) (l ∷ []) g1 c v refl refl refl le g) (λ c v g. guarded_extends t (with_lit l why t) (l ∷ []) g2 c v refl refl refl le' g))
+  keyed_push k g1 g2 le le' = subst (λ (z : TrailView). IsKeyed ours theirs s t g1 g2 k → IsKeyed ours theirs s z g1 g2 k) (sym added) (keyed_trail ours theirs s t (with_lit l why t) g1 g2 g1 g2 k (omega arith) (λ c v g. guarded_extends t (with_lit l why t) (l ∷ []) g1 c v refl refl refl le g) (λ c v g. guarded_extends t (with_lit l why t) (l ∷ []) g2 c v refl refl refl le' g))
 
   pub watched_push : h1 ≤ length t.lits → h2 ≤ length t.lits → IsWatched slots ours theirs s u h1 h2
   watched_push le le' = record { kept = w.kept; trail = trail; keyed = λ k h. keyed_push k h1 h2 le le' (w.keyed k h) }
 
-pub added_one : (slots : List (Option ℕ)) (s : Held) (t u : Assigned) (l key : ℕ) (clause : List ℕ) → IsTrail t → get_or slots key None ≡ Some key → Holds s key clause → Forces clause l t.lits → u ≡ with_lit l (Some key) t → IsAdded slots s t u
+pub added_one : (slots : List (Option ℕ)) (s : StoreView) (t u : TrailView) (l key : ℕ) (clause : List ℕ) → IsTrail t → get_or slots key None ≡ Some key → Holds s key clause → Forces clause l t.lits → u ≡ with_lit l (Some key) t → IsAdded slots s t u
 added_one slots s t u l key clause tr at held forces e = subst (IsAdded slots s t) (sym e) (record {
   adds = AddsForced-one (keys_alone slots) s t l key clause tr.reasons (attached_by (keys_alone slots) key at) held forces;
   head = refl;
 })
 
 -- the last literal is true
-pub last_true : (t u : Assigned) (l : ℕ) (why : Option ℕ) → u ≡ with_lit l why t → Contains u.lits l
-last_true t u l why e = subst (λ (z : Assigned). Contains z.lits l) (sym e) (length t.lits, omega (arith, length-append t.lits (l ∷ [])), get_or_push t.lits l l (length t.lits) refl)
+pub last_true : (t u : TrailView) (l : ℕ) (why : Option ℕ) → u ≡ with_lit l why t → Contains u.lits l
+last_true t u l why e = subst (λ (z : TrailView). Contains z.lits l) (sym e) (length t.lits, omega (arith, length-append t.lits (l ∷ [])), get_or_push t.lits l l (length t.lits) refl)
 
 -- one node of our side moves
-pub keyed_other : (ours theirs new : Lists) (s : Held) (t : Assigned) (from to node : ℕ) → IsApart ours → IsIn ours from node → to < length ours.lists → to ≢ from → IsMoved ours new to node → (k g1 g2 : ℕ) → k ≢ node → IsKeyed ours theirs s t g1 g2 k → IsKeyed new theirs s t g1 g2 k
+pub keyed_other : (ours theirs new : Lists) (s : StoreView) (t : TrailView) (from to node : ℕ) → IsApart ours → IsIn ours from node → to < length ours.lists → to ≢ from → IsMoved ours new to node → (k g1 g2 : ℕ) → k ≢ node → IsKeyed ours theirs s t g1 g2 k → IsKeyed new theirs s t g1 g2 k
 keyed_other ours theirs new s t from to node apart here ml ne mv k g1 g2 n = keyed_chains ours theirs new theirs s t g1 g2 k (omega (arith, moved_length ours new from to node apart here ml ne mv)) (omega arith) (λ list h. moved_stays ours new from to node apart here ml ne mv list k n h) (λ list h. h) (mv.words k n) refl
 
-module _ (slots : List (Option ℕ)) (ours theirs new : Lists) (s : Held) (t : Assigned) (h1 h2 : ℕ) (w : IsWatched slots ours theirs s t h1 h2) (from to node : ℕ) (here : IsIn ours from node) (ml : to < length ours.lists) (ne : to ≢ from) (mv : IsMoved ours new to node) where
+module _ (slots : List (Option ℕ)) (ours theirs new : Lists) (s : StoreView) (t : TrailView) (h1 h2 : ℕ) (w : IsWatched slots ours theirs s t h1 h2) (from to node : ℕ) (here : IsIn ours from node) (ml : to < length ours.lists) (ne : to ≢ from) (mv : IsMoved ours new to node) where
   pub watched_move : IsKeyed new theirs s t h1 h2 node → IsWatched slots new theirs s t h1 h2
   watched_move q = record {
     kept = record { numbered = w.kept.numbered; first_linked = moved_linked ours new from to node w.kept.first_linked.apart here ml ne mv slots w.kept.first_linked; second_linked = w.kept.second_linked };
@@ -153,11 +153,11 @@ module _ (slots : List (Option ℕ)) (ours theirs new : Lists) (s : Held) (t : A
   }
 
 -- the clause of a node in the list of what became false
-pub watch_at : (slots : List (Option ℕ)) (ours theirs : Lists) (s : Held) (t : Assigned) (h1 h2 f node : ℕ) → IsWatched slots ours theirs s t h1 h2 → IsLooking t f → IsIn ours (f + 1) node → IsAtWatch ours theirs s t h1 h2 f node
+pub watch_at : (slots : List (Option ℕ)) (ours theirs : Lists) (s : StoreView) (t : TrailView) (h1 h2 f node : ℕ) → IsWatched slots ours theirs s t h1 h2 → IsLooking t f → IsIn ours (f + 1) node → IsAtWatch ours theirs s t h1 h2 f node
 watch_at slots ours theirs s t h1 h2 f node w lk here = at_watch ours theirs s t h1 h2 f node w.kept.first_linked.apart here lk.literal (w.keyed node (w.kept.first_linked.attached node (f + 1) here))
 
 -- what is read of it
-pub read_is : (s : Held) (key node : ℕ) (c r : List ℕ) → key ≡ node → Holds s node c → ((d : List ℕ) → Holds s key d → r ≡ d) → r ≡ c
+pub read_is : (s : StoreView) (key node : ℕ) (c r : List ℕ) → key ≡ node → Holds s node c → ((d : List ℕ) → Holds s key d → r ≡ d) → r ≡ c
 read_is s key node c r e h only = only c (subst (λ (k : ℕ). Holds s k c) (sym e) h)
 
 pub other_is : (theirs : Lists) (list other b node : ℕ) → IsApart theirs → (i : ℕ) × StandsAt theirs.lists list i node → other ≡ list - 1 → IsIn theirs (b + 1) node → other ≡ b
@@ -169,7 +169,7 @@ list_is theirs list b node apart h there = one_list theirs list (b + 1) node apa
 pub moved_as : (old new : Lists) (list m node : ℕ) → list ≡ m + 1 → IsMoved old new list node → IsMoved old new (m + 1) node
 moved_as old new list m node e h = subst (λ (z : ℕ). IsMoved old new z node) e h
 
-pub looking_added : (slots : List (Option ℕ)) (s : Held) (t u : Assigned) (f : ℕ) → IsAdded slots s t u → IsLooking t f → IsLooking u f
+pub looking_added : (slots : List (Option ℕ)) (s : StoreView) (t u : TrailView) (f : ℕ) → IsAdded slots s t u → IsLooking t f → IsLooking u f
 looking_added slots s t u f e l =
     let lt : t.head < length t.lits = l.below in
     let len : length u.lits ≡ length t.lits + length e.adds.more = ap length e.adds.lits ∙ length-append t.lits e.adds.more in
@@ -181,7 +181,7 @@ looking_added slots s t u f e l =
     }
 
 -- the watch moves to a literal that isn't false
-module _ (slots : List (Option ℕ)) (ours theirs new : Lists) (s : Held) (t : Assigned) (seen f node : ℕ) (w : IsWatched slots ours theirs s t t.head seen) (lk : IsLooking t f) (here : IsIn ours (f + 1) node) (m : ℕ) (a : IsAtWatch ours theirs s t t.head seen f node) (mc : Contains a.clause m) (mo : m ≢ a.other) (free : ¬ Contains t.lits (opposite m)) (mv : IsMoved ours new (m + 1) node) (word : get_or new.words node 0 ≡ a.other) where
+module _ (slots : List (Option ℕ)) (ours theirs new : Lists) (s : StoreView) (t : TrailView) (seen f node : ℕ) (w : IsWatched slots ours theirs s t t.head seen) (lk : IsLooking t f) (here : IsIn ours (f + 1) node) (m : ℕ) (a : IsAtWatch ours theirs s t t.head seen f node) (mc : Contains a.clause m) (mo : m ≢ a.other) (free : ¬ Contains t.lits (opposite m)) (mv : IsMoved ours new (m + 1) node) (word : get_or new.words node 0 ≡ a.other) where
   ml : m + 1 < length ours.lists
   ml = list_exists ours theirs s t t.head seen f node a m mc
 
@@ -198,10 +198,10 @@ module _ (slots : List (Option ℕ)) (ours theirs new : Lists) (s : Held) (t : A
   step_moved = (m, (All-contains IsLiteral a.clause m a.literals mc).0, not_false_differs t f m lk free, ml, mv, key_moved (t.head + 1))
 
 -- the other watch is forced
-module _ (slots : List (Option ℕ)) (ours theirs : Lists) (s : Held) (t u : Assigned) (seen f node : ℕ) (w : IsWatched slots ours theirs s t t.head seen) (lk : IsLooking t f) (here : IsIn ours (f + 1) node) (l : ℕ) (why : Option ℕ) (e : u ≡ with_lit l why t) (trail : IsTrail u) (high : seen ≤ length t.lits) where
+module _ (slots : List (Option ℕ)) (ours theirs : Lists) (s : StoreView) (t u : TrailView) (seen f node : ℕ) (w : IsWatched slots ours theirs s t t.head seen) (lk : IsLooking t f) (here : IsIn ours (f + 1) node) (l : ℕ) (why : Option ℕ) (e : u ≡ with_lit l why t) (trail : IsTrail u) (high : seen ≤ length t.lits) where
   pub settle_forced : IsWatched slots ours theirs s u u.head seen
   settle_forced =
-      let head : u.head ≡ t.head = ap (λ (z : Assigned). z.head) e in
+      let head : u.head ≡ t.head = ap (λ (z : TrailView). z.head) e in
       let lt : t.head < length t.lits = lk.below in
       subst (λ (n : ℕ). IsWatched slots ours theirs s u n seen) (sym head) (watched_push slots ours theirs s t t.head seen w l why u e trail (omega arith) high)
 
@@ -213,23 +213,23 @@ module _ (slots : List (Option ℕ)) (ours theirs : Lists) (s : Held) (t u : Ass
       at_keep ours theirs s u u.head seen f node a (u.head + 1) here (guarded_kept u a.clause f a.other trail a.pair.second (subst (Contains u.lits) o (last_true t u l why e)) a.ours_guarded)
 
 -- the word of the node is true: the watch stays
-pub step_blocked : (slots : List (Option ℕ)) (ours theirs : Lists) (s : Held) (t : Assigned) (seen f node : ℕ) → IsWatched slots ours theirs s t t.head seen → IsLooking t f → IsIn ours (f + 1) node → (2 ≤ get_or ours.words node 0) × Contains t.lits (get_or ours.words node 0) → IsKeyed ours theirs s t (t.head + 1) seen node
+pub step_blocked : (slots : List (Option ℕ)) (ours theirs : Lists) (s : StoreView) (t : TrailView) (seen f node : ℕ) → IsWatched slots ours theirs s t t.head seen → IsLooking t f → IsIn ours (f + 1) node → (2 ≤ get_or ours.words node 0) × Contains t.lits (get_or ours.words node 0) → IsKeyed ours theirs s t (t.head + 1) seen node
 step_blocked slots ours theirs s t seen f node w lk here q =
     let a = watch_at slots ours theirs s t t.head seen f node w lk here in
     at_keep ours theirs s t t.head seen f node a (t.head + 1) here (guarded_kept t a.clause f (get_or ours.words node 0) w.trail (a.our_blocker.each q.0) q.1 a.ours_guarded)
 
 -- the word of a node is a literal of a variable of the trail
-pub word_within : (slots : List (Option ℕ)) (ours theirs : Lists) (s : Held) (t : Assigned) (seen f node : ℕ) → IsWatched slots ours theirs s t t.head seen → IsLooking t f → IsIn ours (f + 1) node → 2 ≤ get_or ours.words node 0 → get_or ours.words node 0 / 2 ≤ t.vars
+pub word_within : (slots : List (Option ℕ)) (ours theirs : Lists) (s : StoreView) (t : TrailView) (seen f node : ℕ) → IsWatched slots ours theirs s t t.head seen → IsLooking t f → IsIn ours (f + 1) node → 2 ≤ get_or ours.words node 0 → get_or ours.words node 0 / 2 ≤ t.vars
 word_within slots ours theirs s t seen f node w lk here low =
     let a = watch_at slots ours theirs s t t.head seen f node w lk here in
     (All-contains (λ l. (1 ≤ l / 2) × (l / 2 ≤ t.vars)) a.clause (get_or ours.words node 0) a.within (a.our_blocker.each low)).1
 
 -- the word of a node changes
-pub keyed_kept : (ours new theirs : Lists) (s : Held) (t : Assigned) (g1 g2 k node : ℕ) → KeepsLists ours new node → k ≢ node → IsKeyed ours theirs s t g1 g2 k → IsKeyed new theirs s t g1 g2 k
+pub keyed_kept : (ours new theirs : Lists) (s : StoreView) (t : TrailView) (g1 g2 k node : ℕ) → KeepsLists ours new node → k ≢ node → IsKeyed ours theirs s t g1 g2 k → IsKeyed new theirs s t g1 g2 k
 keyed_kept ours new theirs s t g1 g2 k node e n = keyed_chains ours theirs new theirs s t g1 g2 k (let x : length new.lists ≡ length ours.lists = ap length e.lists in omega arith) (omega arith) (λ list h. in_kept ours new e.lists list k h) (λ list h. h) (e.words k n) refl
 
 -- the word of a node that watches f is its other watch now
-module _ (slots : List (Option ℕ)) (ours theirs new : Lists) (s : Held) (t : Assigned) (seen f node : ℕ) (w : IsWatched slots ours theirs s t t.head seen) (a : IsAtWatch ours theirs s t t.head seen f node) (here : IsIn ours (f + 1) node) (e : KeepsLists ours new node) (word : get_or new.words node 0 ≡ a.other) where
+module _ (slots : List (Option ℕ)) (ours theirs new : Lists) (s : StoreView) (t : TrailView) (seen f node : ℕ) (w : IsWatched slots ours theirs s t t.head seen) (a : IsAtWatch ours theirs s t t.head seen f node) (here : IsIn ours (f + 1) node) (e : KeepsLists ours new node) (word : get_or new.words node 0 ≡ a.other) where
   own : (h : ℕ) → IsGuarded t h a.clause f → IsKeyed new theirs s t h seen node
   own h g = record {
     clause = a.clause;

@@ -5,7 +5,7 @@ use Rattle.std.proofs.lemmas.List.{get_or_read, get_or_default, get_or_append_le
 use Rattle.std.proofs.lemmas.Bool.{cases_eq}
 use Rattle.gi_lit.specs.Literals.{opposite}
 use Rattle.gi_lit.proofs.Literals.{opposite_from_var}
-use Rattle.gi_prop.specs.Assigned.{HasValue}
+use Rattle.gi_prop.specs.TrailView.{HasValue}
 use Rattle.gi_prop.specs.Laid.{IsIndexed, IsTable, value_at}
 use Rattle.gi_prop.proofs.Indexing.{IsIndexed-push, IsIndexed-pop, IsIndexed-grow, last_in_range, value_none, none_more}
 
@@ -33,26 +33,26 @@ sign_differs l false false e q s = grind arith
 pub read_value : (values : List (Option Bool)) (l v i : ℕ) (r o : Option Bool) → v ≡ l / 2 → i ≡ v → i - 1 < length values → r ≡ get_or values (i - 1) r → r ≡ o → get_or values (l / 2 - 1) None ≡ o
 read_value values l v i r o a b lt e f = rw (← a, ← b) (sym (get_or_read values (i - 1) r lt e None) ∙ f)
 
-module _ (places : List (Option ℕ)) (lits : List ℕ) (values : List (Option Bool)) (t : IsTable places lits values) where
+module _ (positions : List (Option ℕ)) (lits : List ℕ) (values : List (Option Bool)) (t : IsTable positions lits values) where
   -- what is read where no value is
   pub reads_none : (l : ℕ) → get_or values (l / 2 - 1) None ≡ None → HasValue lits l None
-  reads_none l e = go (get_or places (l / 2 - 1) None) refl
+  reads_none l e = go (get_or positions (l / 2 - 1) None) refl
     where
-      at : value_at lits (get_or places (l / 2 - 1) None) ≡ None
+      at : value_at lits (get_or positions (l / 2 - 1) None) ≡ None
       at = sym (t.valued.each (l / 2 - 1)) ∙ e
 
-      go : (o : Option ℕ) → get_or places (l / 2 - 1) None ≡ o → HasValue lits l None
-      go None q = value_none places lits t.indexed l q
+      go : (o : Option ℕ) → get_or positions (l / 2 - 1) None ≡ o → HasValue lits l None
+      go None q = value_none positions lits t.indexed l q
       go (Some p) q = absurd (let z : value_at lits (Some p) ≡ None = rw q at at in cc)
 
   -- where one is, a literal with its sign stands in the trail
   stands : (l : ℕ) (b : Bool) → get_or values (l / 2 - 1) None ≡ Some b → (p : ℕ) × (p < length lits) × (get_or lits p 0 / 2 ≡ (l / 2 - 1) + 1) × ((get_or lits p 0 % 2 == 0) ≡ b)
-  stands l b e = go (get_or places (l / 2 - 1) None) refl
+  stands l b e = go (get_or positions (l / 2 - 1) None) refl
     where
-      at : value_at lits (get_or places (l / 2 - 1) None) ≡ Some b
+      at : value_at lits (get_or positions (l / 2 - 1) None) ≡ Some b
       at = sym (t.valued.each (l / 2 - 1)) ∙ e
 
-      go : (o : Option ℕ) → get_or places (l / 2 - 1) None ≡ o → (p : ℕ) × (p < length lits) × (get_or lits p 0 / 2 ≡ (l / 2 - 1) + 1) × ((get_or lits p 0 % 2 == 0) ≡ b)
+      go : (o : Option ℕ) → get_or positions (l / 2 - 1) None ≡ o → (p : ℕ) × (p < length lits) × (get_or lits p 0 / 2 ≡ (l / 2 - 1) + 1) × ((get_or lits p 0 % 2 == 0) ≡ b)
       go None q = absurd (let z : value_at lits None ≡ Some b = rw q at at in cc)
       go (Some p) q =
           let z : value_at lits (Some p) ≡ Some b = rw q at at in
@@ -77,13 +77,13 @@ module _ (places : List (Option ℕ)) (lits : List ℕ) (values : List (Option B
   reads_some l b false big e is differs = reads_false l b big e (differs refl)
 
   -- a literal more
-  pub IsTable-push : (l n : ℕ) (b : Bool) → n ≡ length lits → b ≡ (l % 2 == 0) → 1 ≤ l / 2 → l / 2 ≤ length places → HasValue lits l None → IsTable (set places (l / 2 - 1) (Some n)) (lits ++ l ∷ []) (set values (l / 2 - 1) (Some b))
+  pub IsTable-push : (l n : ℕ) (b : Bool) → n ≡ length lits → b ≡ (l % 2 == 0) → 1 ≤ l / 2 → l / 2 ≤ length positions → HasValue lits l None → IsTable (set positions (l / 2 - 1) (Some n)) (lits ++ l ∷ []) (set values (l / 2 - 1) (Some b))
   IsTable-push l n b ne be big within free = rw (ne, be) (record {
-    indexed = IsIndexed-push places lits t.indexed l big within free;
+    indexed = IsIndexed-push positions lits t.indexed l big within free;
     valued = record { count = rw (length-set, length-set) t.valued.count; each = each' };
   })
     where
-      lt : l / 2 - 1 < length places
+      lt : l / 2 - 1 < length positions
       lt = omega arith
 
       vlt : l / 2 - 1 < length values
@@ -92,62 +92,62 @@ module _ (places : List (Option ℕ)) (lits : List ℕ) (values : List (Option B
       last : get_or (lits ++ l ∷ []) (length lits) 0 ≡ l
       last = get_or_push lits l 0 (length lits) refl
 
-      old : (v : ℕ) (o : Option ℕ) → get_or places v None ≡ o → value_at lits o ≡ value_at (lits ++ l ∷ []) o
+      old : (v : ℕ) (o : Option ℕ) → get_or positions v None ≡ o → value_at lits o ≡ value_at (lits ++ l ∷ []) o
       old v None q = refl
       old v (Some p) q = let w = t.indexed.back v p q in rw (get_or_append_left lits (l ∷ []) 0 p w.0) refl
 
-      each' : (v : ℕ) → get_or (set values (l / 2 - 1) (Some (l % 2 == 0))) v None ≡ value_at (lits ++ l ∷ []) (get_or (set places (l / 2 - 1) (Some (length lits))) v None)
+      each' : (v : ℕ) → get_or (set values (l / 2 - 1) (Some (l % 2 == 0))) v None ≡ value_at (lits ++ l ∷ []) (get_or (set positions (l / 2 - 1) (Some (length lits))) v None)
       each' v = elim (cases_eq v (l / 2 - 1)) [
         | inl same ↦
             let a : get_or (set values (l / 2 - 1) (Some (l % 2 == 0))) (l / 2 - 1) None ≡ Some (l % 2 == 0) = get_or-set_same values (l / 2 - 1) (Some (l % 2 == 0)) None vlt in
-            let c : get_or (set places (l / 2 - 1) (Some (length lits))) (l / 2 - 1) None ≡ Some (length lits) = get_or-set_same places (l / 2 - 1) (Some (length lits)) None lt in
+            let c : get_or (set positions (l / 2 - 1) (Some (length lits))) (l / 2 - 1) None ≡ Some (length lits) = get_or-set_same positions (l / 2 - 1) (Some (length lits)) None lt in
             rw (same, a, c, last) refl
         | inr other ↦
             let a : get_or (set values (l / 2 - 1) (Some (l % 2 == 0))) v None ≡ get_or values v None = get_or-set_other values (l / 2 - 1) v (Some (l % 2 == 0)) None other in
-            let c : get_or (set places (l / 2 - 1) (Some (length lits))) v None ≡ get_or places v None = get_or-set_other places (l / 2 - 1) v (Some (length lits)) None other in
-            rw (a, c) (t.valued.each v ∙ old v (get_or places v None) refl)
+            let c : get_or (set positions (l / 2 - 1) (Some (length lits))) v None ≡ get_or positions v None = get_or-set_other positions (l / 2 - 1) v (Some (length lits)) None other in
+            rw (a, c) (t.valued.each v ∙ old v (get_or positions v None) refl)
       ]
 
   -- variables more, which have no value
-  pub IsTable-grow : (m : ℕ) → IsTable (places ++ replicate m None) lits (values ++ replicate m None)
+  pub IsTable-grow : (m : ℕ) → IsTable (positions ++ replicate m None) lits (values ++ replicate m None)
   IsTable-grow m = record {
-    indexed = IsIndexed-grow places lits m t.indexed;
+    indexed = IsIndexed-grow positions lits m t.indexed;
     valued = record {
-      count = omega (arith, t.valued.count, length-append values (replicate m None), length-append places (replicate m None), length-replicate m (let o : Option ℕ = None in o), length-replicate m (let o : Option Bool = None in o));
-      each = λ v. none_more values m v ∙ t.valued.each v ∙ ap (value_at lits) (sym (none_more places m v));
+      count = omega (arith, t.valued.count, length-append values (replicate m None), length-append positions (replicate m None), length-replicate m (let o : Option ℕ = None in o), length-replicate m (let o : Option Bool = None in o));
+      each = λ v. none_more values m v ∙ t.valued.each v ∙ ap (value_at lits) (sym (none_more positions m v));
     };
   }
 
-module _ (places : List (Option ℕ)) (front : List ℕ) (l : ℕ) (values : List (Option Bool)) (t : IsTable places (front ++ l ∷ []) values) where
+module _ (positions : List (Option ℕ)) (front : List ℕ) (l : ℕ) (values : List (Option Bool)) (t : IsTable positions (front ++ l ∷ []) values) where
   pub last_value_in_range : l / 2 - 1 < length values
-  last_value_in_range = rw t.valued.count (last_in_range places front l t.indexed)
+  last_value_in_range = rw t.valued.count (last_in_range positions front l t.indexed)
 
   -- without the last literal
-  pub IsTable-pop : IsTable (set places (l / 2 - 1) None) front (set values (l / 2 - 1) None)
+  pub IsTable-pop : IsTable (set positions (l / 2 - 1) None) front (set values (l / 2 - 1) None)
   IsTable-pop = record {
     indexed = popped;
     valued = record { count = rw (length-set, length-set) t.valued.count; each = each' };
   }
     where
-      popped : IsIndexed (set places (l / 2 - 1) None) front
-      popped = IsIndexed-pop places front l t.indexed
+      popped : IsIndexed (set positions (l / 2 - 1) None) front
+      popped = IsIndexed-pop positions front l t.indexed
 
-      lt : l / 2 - 1 < length places
-      lt = last_in_range places front l t.indexed
+      lt : l / 2 - 1 < length positions
+      lt = last_in_range positions front l t.indexed
 
-      old : (v : ℕ) (o : Option ℕ) → get_or (set places (l / 2 - 1) None) v None ≡ o → value_at (front ++ l ∷ []) o ≡ value_at front o
+      old : (v : ℕ) (o : Option ℕ) → get_or (set positions (l / 2 - 1) None) v None ≡ o → value_at (front ++ l ∷ []) o ≡ value_at front o
       old v None q = refl
       old v (Some p) q = let w = popped.back v p q in rw (get_or_append_left front (l ∷ []) 0 p w.0) refl
 
-      each' : (v : ℕ) → get_or (set values (l / 2 - 1) None) v None ≡ value_at front (get_or (set places (l / 2 - 1) None) v None)
+      each' : (v : ℕ) → get_or (set values (l / 2 - 1) None) v None ≡ value_at front (get_or (set positions (l / 2 - 1) None) v None)
       each' v = elim (cases_eq v (l / 2 - 1)) [
         | inl same ↦
             let a : get_or (set values (l / 2 - 1) None) (l / 2 - 1) None ≡ None = get_or-set_same values (l / 2 - 1) None None last_value_in_range in
-            let c : get_or (set places (l / 2 - 1) None) (l / 2 - 1) None ≡ None = get_or-set_same places (l / 2 - 1) None None lt in
+            let c : get_or (set positions (l / 2 - 1) None) (l / 2 - 1) None ≡ None = get_or-set_same positions (l / 2 - 1) None None lt in
             rw (same, a, c) refl
         | inr other ↦
             let a : get_or (set values (l / 2 - 1) None) v None ≡ get_or values v None = get_or-set_other values (l / 2 - 1) v None None other in
-            let c : get_or (set places (l / 2 - 1) None) v None ≡ get_or places v None = get_or-set_other places (l / 2 - 1) v None None other in
-            let d : value_at (front ++ l ∷ []) (get_or places v None) ≡ value_at front (get_or places v None) = old v (get_or places v None) c in
+            let c : get_or (set positions (l / 2 - 1) None) v None ≡ get_or positions v None = get_or-set_other positions (l / 2 - 1) v None None other in
+            let d : value_at (front ++ l ∷ []) (get_or positions v None) ≡ value_at front (get_or positions v None) = old v (get_or positions v None) c in
             rw (a, c) (t.valued.each v ∙ d)
       ]

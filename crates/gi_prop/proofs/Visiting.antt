@@ -4,9 +4,9 @@ use Rattle.std.proofs.lemmas.Bool.{cases_lt, cases_eq, eq-eqb, ne_eqb}
 use Rattle.std.proofs.lemmas.Option.{slice_get_past, slice_get_within, slice_get-get_or, get_or_from_slice_get}
 use Rattle.std.proofs.lemmas.List.Edits.{length-remove, get_or-remove_above}
 use Rattle.gi_lit.proofs.Literals.{opposite-injective}
-use Rattle.gi_store.specs.Held.{Held}
+use Rattle.gi_store.specs.StoreView.{StoreView}
 use Rattle.gi_chains.specs.Lists.{Lists, items_at, StandsAt, IsApart}
-use Rattle.gi_prop.specs.Assigned.{Assigned}
+use Rattle.gi_prop.specs.TrailView.{TrailView}
 use Rattle.gi_prop.specs.Attached.{AddsForced, keys_alone}
 use Rattle.gi_prop.specs.Watched.{IsIn, IsPlaced, IsKeyed}
 use Rattle.gi_prop.specs.Watched.IsPlaced.{watched, aside}
@@ -18,19 +18,19 @@ use Rattle.gi_prop.proofs.Settling.{keyed_other, keyed_kept, looking_added}
 use Rattle.gi_prop.proofs.Adding.{AddsForced-trans}
 
 -- how many nodes are left from one on
-unfoldable pub left_of : Option ℕ → List ℕ → ℕ
-left_of None xs = 0
-left_of (Some k) [] = 0
-left_of (Some k) (x ∷ xs) = cond (nat_eq x k) (suc (length xs)) (left_of (Some k) xs)
+unfoldable pub non_false : Option ℕ → List ℕ → ℕ
+non_false None xs = 0
+non_false (Some k) [] = 0
+non_false (Some k) (x ∷ xs) = cond (nat_eq x k) (suc (length xs)) (non_false (Some k) xs)
 
-left_at : (xs : List ℕ) (i k : ℕ) → i < length xs → get_or xs i 0 ≡ k → ((j : ℕ) → j < i → get_or xs j 0 ≢ k) → left_of (Some k) xs ≡ length xs - i
-unfolding left_of
+left_at : (xs : List ℕ) (i k : ℕ) → i < length xs → get_or xs i 0 ≡ k → ((j : ℕ) → j < i → get_or xs j 0 ≢ k) → non_false (Some k) xs ≡ length xs - i
+unfolding non_false
 left_at [] i k lt e h = absurd (omega arith)
 left_at (x ∷ xs) zero k lt e h = rw (eq-eqb x k e) (omega arith)
 left_at (x ∷ xs) (suc i) k lt e h = rw (ne_eqb x k (h zero (omega arith))) (left_at xs i k (omega arith) e (λ j jl. h (suc j) (omega arith)) ∙ omega arith)
 
-left_none : (xs : List ℕ) → left_of None xs ≡ 0
-unfolding left_of
+left_none : (xs : List ℕ) → non_false None xs ≡ 0
+unfolding non_false
 left_none xs = refl
 
 -- where a walk along a list stands
@@ -46,17 +46,17 @@ module _ (chains : Lists) (list : ℕ) (at : Option ℕ) (place : ℕ) (v : IsWa
   pub standing : (k : ℕ) → at ≡ Some k → StandsAt chains.lists list place k
   standing k e = let g : slice_get xs place ≡ Some k = sym v.at_is ∙ e in record { list = v.exists; place = slice_get_within xs place k g; item = get_or_from_slice_get xs place k 0 g }
 
-  pub left_is : left_of at xs ≡ length xs - place
+  pub left_is : non_false at xs ≡ length xs - place
   left_is = elim (cases_lt place (length xs)) [
     | inl lt ↦
         let k : ℕ = get_or xs place 0 in
         let e : at ≡ Some (get_or xs place 0) = v.at_is ∙ slice_get-get_or xs place 0 lt in
-        ap (λ o. left_of o xs) e
+        ap (λ o. non_false o xs) e
         ∙ left_at xs place (get_or xs place 0) lt refl (λ j jl same.
         let jx : j < length xs = omega arith in
         let p : j ≡ place = v.apart.same_place list j list place (get_or xs place 0) (record { list = v.exists; place = jx; item = same }) (record { list = v.exists; place = lt; item = refl }) in
         omega arith)
-    | inr ge ↦ ap (λ o. left_of o xs) (v.at_is ∙ slice_get_past xs place ge) ∙ left_none xs ∙ omega arith
+    | inr ge ↦ ap (λ o. non_false o xs) (v.at_is ∙ slice_get_past xs place ge) ∙ left_none xs ∙ omega arith
   ]
 
   -- at the end of the list
@@ -93,28 +93,28 @@ module _ (chains new : Lists) (list : ℕ) (at : Option ℕ) (place : ℕ) (v : 
   }
 
 -- fewer nodes are left
-pub fewer_on : (chains new : Lists) (list : ℕ) (at : Option ℕ) (place : ℕ) (v : IsWalking chains list at place) (node : ℕ) → at ≡ Some node → (next : Option ℕ) → next ≡ slice_get (items_at chains.lists list) (place + 1) → new.lists ≡ chains.lists → IsApart new → left_of next (items_at new.lists list) < left_of at (items_at chains.lists list)
+pub fewer_on : (chains new : Lists) (list : ℕ) (at : Option ℕ) (place : ℕ) (v : IsWalking chains list at place) (node : ℕ) → at ≡ Some node → (next : Option ℕ) → next ≡ slice_get (items_at chains.lists list) (place + 1) → new.lists ≡ chains.lists → IsApart new → non_false next (items_at new.lists list) < non_false at (items_at chains.lists list)
 fewer_on chains new list at place v node is next nis e apart =
     let il : place < length (items_at chains.lists list) = (standing chains list at place v node is).place in
     let len : length (items_at new.lists list) ≡ length (items_at chains.lists list) = ap (λ z. length (items_at z list)) e in
     omega (arith, left_is chains list at place v, left_is new list next (place + 1) (walk_on chains new list at place v next nis e apart))
 
-pub fewer_gone : (chains new : Lists) (list : ℕ) (at : Option ℕ) (place : ℕ) (v : IsWalking chains list at place) (node : ℕ) (is : at ≡ Some node) (to : ℕ) (ml : to < length chains.lists) (ne : to ≢ list) (mv : IsMoved chains new to node) (next : Option ℕ) → next ≡ slice_get (items_at chains.lists list) (place + 1) → left_of next (items_at new.lists list) < left_of at (items_at chains.lists list)
+pub fewer_gone : (chains new : Lists) (list : ℕ) (at : Option ℕ) (place : ℕ) (v : IsWalking chains list at place) (node : ℕ) (is : at ≡ Some node) (to : ℕ) (ml : to < length chains.lists) (ne : to ≢ list) (mv : IsMoved chains new to node) (next : Option ℕ) → next ≡ slice_get (items_at chains.lists list) (place + 1) → non_false next (items_at new.lists list) < non_false at (items_at chains.lists list)
 fewer_gone chains new list at place v node is to ml ne mv next nis =
     let il : place < length (items_at chains.lists list) = (standing chains list at place v node is).place in
     let len : length (items_at new.lists list) + 1 ≡ length (items_at chains.lists list) = ap (λ z. length z + 1) (items_gone chains new list at place v node is to ml ne mv) ∙ length-remove (items_at chains.lists list) place il in
     omega (arith, left_is chains list at place v, left_is new list next place (walk_gone chains new list at place v node is to ml ne mv next nis))
 
 -- what was added in two steps
-pub added_on : (slots : List (Option ℕ)) (s : Held) (a b c : Assigned) → length b.reasons ≡ length b.lits → IsAdded slots s a b → IsAdded slots s b c → IsAdded slots s a c
+pub added_on : (slots : List (Option ℕ)) (s : StoreView) (a b c : TrailView) → length b.reasons ≡ length b.lits → IsAdded slots s a b → IsAdded slots s b c → IsAdded slots s a c
 added_on slots s a b c al x y = record { adds = AddsForced-trans (keys_alone slots) s a b c al x.adds y.adds; head = y.head ∙ x.head }
 
 -- what was looked at stays so
-pub keyed_added : (slots : List (Option ℕ)) (ours theirs : Lists) (s : Held) (t u : Assigned) (h1 h2 k : ℕ) → AddsForced (keys_alone slots) s t u → h1 ≤ length t.lits → h2 ≤ length t.lits → IsKeyed ours theirs s t h1 h2 k → IsKeyed ours theirs s u h1 h2 k
-keyed_added slots ours theirs s t u h1 h2 k e le le' = keyed_trail ours theirs s t u h1 h2 h1 h2 k (omega (arith, e.vars)) (λ c v g. guarded_extends t u e.more h1 c v e.lits e.marks e.heads le g) (λ c v g. guarded_extends t u e.more h2 c v e.lits e.marks e.heads le' g)
+pub keyed_added : (slots : List (Option ℕ)) (ours theirs : Lists) (s : StoreView) (t u : TrailView) (h1 h2 k : ℕ) → AddsForced (keys_alone slots) s t u → h1 ≤ length t.lits → h2 ≤ length t.lits → IsKeyed ours theirs s t h1 h2 k → IsKeyed ours theirs s u h1 h2 k
+keyed_added slots ours theirs s t u h1 h2 k e le le' = keyed_trail ours theirs s t u h1 h2 h1 h2 k (omega (arith, e.vars)) (λ c v g. guarded_extends t u e.more h1 c v e.lits e.level_starts e.qheads le g) (λ c v g. guarded_extends t u e.more h2 c v e.lits e.level_starts e.qheads le' g)
 
 -- where the visit of one list stands: what is before the place was looked at
-pub record IsVisiting (slots : List (Option ℕ)) (old_ours ours theirs : Lists) (s : Held) (old t : Assigned) (seen f : ℕ) (at : Option ℕ) : Type 0 where
+pub record IsVisiting (slots : List (Option ℕ)) (old_ours ours theirs : Lists) (s : StoreView) (old t : TrailView) (seen f : ℕ) (at : Option ℕ) : Type 0 where
   pub watched : IsWatched slots ours theirs s t t.head seen
   pub added : IsAdded slots s old t
   pub aside : LeavesAside old_ours ours
@@ -125,7 +125,7 @@ pub record IsVisiting (slots : List (Option ℕ)) (old_ours ours theirs : Lists)
   pub done : (j k : ℕ) → j < place → StandsAt ours.lists (f + 1) j k → IsKeyed ours theirs s t (t.head + 1) seen k
 
 -- a clause that doesn't watch f needs no look
-pub keyed_more : (ours theirs : Lists) (s : Held) (t : Assigned) (h2 f k : ℕ) → IsLooking t f → (IsIn ours (f + 1) k → IsKeyed ours theirs s t (t.head + 1) h2 k) → IsKeyed ours theirs s t t.head h2 k → IsKeyed ours theirs s t (t.head + 1) h2 k
+pub keyed_more : (ours theirs : Lists) (s : StoreView) (t : TrailView) (h2 f k : ℕ) → IsLooking t f → (IsIn ours (f + 1) k → IsKeyed ours theirs s t (t.head + 1) h2 k) → IsKeyed ours theirs s t t.head h2 k → IsKeyed ours theirs s t (t.head + 1) h2 k
 keyed_more ours theirs s t h2 f k lk here q = go q.placed
   where
     with_placed : IsPlaced ours theirs t (t.head + 1) h2 k q.clause → IsKeyed ours theirs s t (t.head + 1) h2 k
@@ -138,7 +138,7 @@ keyed_more ours theirs s t h2 f k lk here q = go q.placed
     ]
     go (aside l x y i) = with_placed (aside l x y i)
 
-module _ (slots : List (Option ℕ)) (old_ours ours theirs : Lists) (s : Held) (old t : Assigned) (seen f : ℕ) (at : Option ℕ) (v : IsVisiting slots old_ours ours theirs s old t seen f at) where
+module _ (slots : List (Option ℕ)) (old_ours ours theirs : Lists) (s : StoreView) (old t : TrailView) (seen f : ℕ) (at : Option ℕ) (v : IsVisiting slots old_ours ours theirs s old t seen f at) where
   -- the end of the list
   pub all_seen : at ≡ None → IsWatched slots ours theirs s t (t.head + 1) seen
   all_seen e = record {
@@ -150,7 +150,7 @@ module _ (slots : List (Option ℕ)) (old_ours ours theirs : Lists) (s : Held) (
         v.done x.place k (omega arith) x.stands) (v.watched.keyed k h);
   }
 
-  module _ (node : ℕ) (is : at ≡ Some node) (next : Option ℕ) (next_is : next ≡ slice_get (items_at ours.lists (f + 1)) (v.place + 1)) (new : Lists) (u : Assigned) (w : IsWatched slots new theirs s u u.head seen) (e : IsAdded slots s t u) where
+  module _ (node : ℕ) (is : at ≡ Some node) (next : Option ℕ) (next_is : next ≡ slice_get (items_at ours.lists (f + 1)) (v.place + 1)) (new : Lists) (u : TrailView) (w : IsWatched slots new theirs s u u.head seen) (e : IsAdded slots s t u) where
     later : (k : ℕ) → IsKeyed ours theirs s t (t.head + 1) seen k → IsKeyed ours theirs s u (u.head + 1) seen k
     later k q =
         let head : u.head ≡ t.head = e.head in
@@ -205,7 +205,7 @@ module _ (slots : List (Option ℕ)) (old_ours ours theirs : Lists) (s : Held) (
         }
 
 -- no clause watches what has no list
-pub none_seen : (slots : List (Option ℕ)) (ours theirs : Lists) (s : Held) (t : Assigned) (seen f : ℕ) → IsWatched slots ours theirs s t t.head seen → IsLooking t f → length ours.lists ≤ f + 1 → IsWatched slots ours theirs s t (t.head + 1) seen
+pub none_seen : (slots : List (Option ℕ)) (ours theirs : Lists) (s : StoreView) (t : TrailView) (seen f : ℕ) → IsWatched slots ours theirs s t t.head seen → IsLooking t f → length ours.lists ≤ f + 1 → IsWatched slots ours theirs s t (t.head + 1) seen
 none_seen slots ours theirs s t seen f w lk le = record {
   kept = w.kept;
   trail = w.trail;

@@ -3,9 +3,9 @@
 use Rattle.std.specs.Prelude.{◌≡◌, ◌≢◌, ℕ, ◌+◌, ◌<◌, ◌≤◌, ◌⊎◌, Option, Some, None, List, [], ◌++◌, length, take, slice_index, slice_index_or, Contains}
 use Rattle.gi_lit.specs.Literals.{opposite, IsLiteral}
 use Rattle.gi_lit.specs.Closure.{Forces, IsSettled, IsFalsified}
-use Rattle.gi_store.specs.Held.{Held, Holds, IsWithin}
+use Rattle.gi_store.specs.StoreView.{StoreView, Holds, IsWithin}
 use Rattle.gi_chains.specs.Lists.{Lists}
-use Rattle.gi_prop.specs.Assigned.{Assigned}
+use Rattle.gi_prop.specs.TrailView.{TrailView}
 use Rattle.gi_prop.specs.Watched.{IsIn, IsPair, IsKeyed}
 
 pub record Attached : Type 0 where
@@ -18,13 +18,13 @@ unfoldable pub IsAttached : Attached → ℕ → Type 0
 IsAttached p key = slice_index_or p.slots key None ≡ Some key
 
 -- the store has a clause under the key, of variables from 1 to n
-pub record HasClause (s : Held) (n key : ℕ) : Type 0 where
+pub record HasClause (s : StoreView) (n key : ℕ) : Type 0 where
   pub clause : List ℕ
   pub held : Holds s key clause
   pub within : IsWithin n clause
 
 -- the propagator goes with the store and the trail: each attached key has a clause, of variables of the trail, and the clause is watched
-unfoldable pub Goes : Attached → Held → Assigned → Type 0
+unfoldable pub Goes : Attached → StoreView → TrailView → Type 0
 Goes p s t = (key : ℕ) → IsAttached p key → IsKeyed p.first p.second s t t.head t.head key
 
 -- the clause of the key watches these two literals
@@ -54,13 +54,13 @@ pub record HasTwoLeft (lits clause : List ℕ) : Type 0 where
   pub b_left : ¬ Contains lits (opposite b)
 
 -- the two are different literals of the key's clause
-pub record AreOfClause (s : Held) (key a b : ℕ) : Type 0 where
+pub record AreOfClause (s : StoreView) (key a b : ℕ) : Type 0 where
   pub clause : List ℕ
   pub held : Holds s key clause
   pub pair : IsPair clause a b
 
 -- each attached clause with two different literals that aren't false has two watches, and a clause with a false watch has a true literal
-pub record AreWatched (p : Attached) (s : Held) (lits : List ℕ) : Type 0 where
+pub record AreWatched (p : Attached) (s : StoreView) (lits : List ℕ) : Type 0 where
   pub two : (key : ℕ) (clause : List ℕ) → IsAttached p key → Holds s key clause → HasTwoLeft lits clause → HasWatches p key
   pub true : (key a b : ℕ) (clause : List ℕ) → IsAttached p key → Holds s key clause → Watches p key a b → Contains lits (opposite a) ⊎ Contains lits (opposite b) → (l : ℕ) × Contains clause l × Contains lits l
 
@@ -90,7 +90,7 @@ pub record Detaches (key : ℕ) (old new : Attached) : Type 0 where
   pub others : (k : ℕ) → IsAttached new k → IsAttached old k
 
 -- the literal at a place was forced: its reason is an attached key, whose clause has it, and has its other literals false before it
-pub record IsForcedAt (p : Attached) (s : Held) (t : Assigned) (place : ℕ) : Type 0 where
+pub record IsForcedAt (p : Attached) (s : StoreView) (t : TrailView) (place : ℕ) : Type 0 where
   pub key : ℕ
   pub reason : slice_index_or t.reasons place None ≡ Some key
   pub attached : IsAttached p key
@@ -99,10 +99,10 @@ pub record IsForcedAt (p : Attached) (s : Held) (t : Assigned) (place : ℕ) : T
   pub forces : Forces clause (slice_index t.lits place) (take place t.lits)
 
 -- the trail has forced literals more behind, and else is as it was, but for how much of it was looked at
-pub record AddsForced (p : Attached) (s : Held) (old new : Assigned) : Type 0 where
+pub record AddsForced (p : Attached) (s : StoreView) (old new : TrailView) : Type 0 where
   pub vars : new.vars ≡ old.vars
-  pub marks : new.marks ≡ old.marks
-  pub heads : new.heads ≡ old.heads
+  pub level_starts : new.level_starts ≡ old.level_starts
+  pub qheads : new.qheads ≡ old.qheads
   pub more : List ℕ
   pub lits : new.lits ≡ old.lits ++ more
   pub why : List (Option ℕ)
@@ -110,11 +110,11 @@ pub record AddsForced (p : Attached) (s : Held) (old new : Assigned) : Type 0 wh
   pub each : (k : ℕ) → length old.lits ≤ k → k < length new.lits → IsForcedAt p s new k
 
 -- each attached clause is settled: it forces nothing more, and isn't false
-pub record AreSettled (p : Attached) (s : Held) (lits : List ℕ) : Type 0 where
+pub record AreSettled (p : Attached) (s : StoreView) (lits : List ℕ) : Type 0 where
   pub each : (key : ℕ) (clause : List ℕ) → IsAttached p key → Holds s key clause → IsSettled lits clause
 
 -- the key is attached, and all literals of its clause are false
-pub record IsConflict (p : Attached) (s : Held) (lits : List ℕ) (key : ℕ) : Type 0 where
+pub record IsConflict (p : Attached) (s : StoreView) (lits : List ℕ) (key : ℕ) : Type 0 where
   pub attached : IsAttached p key
   pub clause : List ℕ
   pub held : Holds s key clause

@@ -1,4 +1,4 @@
-pub mod Assigned
+pub mod TrailView
 pub mod Laid
 pub mod Truths
 pub mod Watched

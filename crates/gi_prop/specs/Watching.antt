@@ -1,9 +1,9 @@
 -- What propagation by watches keeps, and what its steps do.
 use Rattle.std.specs.Prelude.{◌≡◌, ◌≢◌, ℕ, ◌+◌, ◌∷◌, ◌<◌, ◌≤◌, ◌⊎◌, Option, Some, None, List, length, remove, slice_index, slice_index_or, slice_set, All, Contains}
 use Rattle.gi_lit.specs.Literals.{opposite}
-use Rattle.gi_store.specs.Held.{Held, Holds}
+use Rattle.gi_store.specs.StoreView.{StoreView, Holds}
 use Rattle.gi_chains.specs.Lists.{Lists, items_at, StandsAt, IsApart}
-use Rattle.gi_prop.specs.Assigned.{Assigned, IsTrail}
+use Rattle.gi_prop.specs.TrailView.{TrailView, IsTrail}
 use Rattle.gi_prop.specs.Attached.{AddsForced, keys_alone, HasTwoLeft}
 use Rattle.gi_prop.specs.Watched.{IsIn, IsPair, IsAside, IsKeyed}
 
@@ -24,19 +24,19 @@ pub record AreKept (slots : List (Option ℕ)) (first second : Lists) : Type 0 w
   pub second_linked : AreLinked slots second
 
 -- what propagation keeps, where the watches of either side are guarded in so much of the trail
-pub record IsWatched (slots : List (Option ℕ)) (ours theirs : Lists) (s : Held) (t : Assigned) (our_head their_head : ℕ) : Type 0 where
+pub record IsWatched (slots : List (Option ℕ)) (ours theirs : Lists) (s : StoreView) (t : TrailView) (our_head their_head : ℕ) : Type 0 where
   pub kept : AreKept slots ours theirs
   pub trail : IsTrail t
   pub keyed : (key : ℕ) → slice_index_or slots key None ≡ Some key → IsKeyed ours theirs s t our_head their_head key
 
 -- the literal at the head of the trail is true, so this one is false
-pub record IsLooking (t : Assigned) (falsified : ℕ) : Type 0 where
+pub record IsLooking (t : TrailView) (falsified : ℕ) : Type 0 where
   pub below : t.head < length t.lits
   pub is : slice_index t.lits t.head ≡ opposite falsified
   pub literal : 2 ≤ falsified
 
 -- forced literals were added, and no more was looked at
-pub record IsAdded (slots : List (Option ℕ)) (s : Held) (old new : Assigned) : Type 0 where
+pub record IsAdded (slots : List (Option ℕ)) (s : StoreView) (old new : TrailView) : Type 0 where
   pub adds : AddsForced (keys_alone slots) s old new
   pub head : new.head ≡ old.head
 
@@ -68,13 +68,13 @@ pub record IsOnlyTrue (lits clause : List ℕ) : Type 0 where
   pub others : All (λ m. (m ≡ lit) ⊎ Contains lits (opposite m)) clause
 
 -- so has the clause of the key
-pub record IsPassed (s : Held) (lits : List ℕ) (key : ℕ) : Type 0 where
+pub record IsPassed (s : StoreView) (lits : List ℕ) (key : ℕ) : Type 0 where
   pub clause : List ℕ
   pub held : Holds s key clause
   pub only : IsOnlyTrue lits clause
 
 -- so have the clauses of a list
-pub record ArePassed (chains : Lists) (s : Held) (lits : List ℕ) (list : ℕ) : Type 0 where
+pub record ArePassed (chains : Lists) (s : StoreView) (lits : List ℕ) (list : ℕ) : Type 0 where
   pub each : (key : ℕ) → IsIn chains list key → IsPassed s lits key
 
 -- the lists in which the nodes of a clause are to stand

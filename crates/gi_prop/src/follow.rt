@@ -5,7 +5,7 @@ ghost use Rattle.gi_prop.specs.Watched.{IsIn};
 ghost use Rattle.gi_prop.specs.Watching.{IsWatched, IsLooking, IsAdded, IsMoved, LeavesAside};
 ghost use Rattle.gi_prop.specs.Steps.{IsStep};
 
-use crate::look::{Look, Step, list_of, look_at, watched_lit};
+use crate::look::{Look, Visited, list_of, look_at, watched_lit};
 use crate::starts::Starts;
 use crate::trail::Trail;
 use gi_chains::Chains;
@@ -58,7 +58,7 @@ fn settle(
     trail: &mut Trail,
     falsified: Lit,
     node: u64,
-) -> Step
+) -> Visited
     ghost seen: { ℕ }
     requires watched { IsWatched slots.now ours.old theirs.now store.now trail.old trail.old.head seen }
     requires looking { IsLooking trail.old falsified }
@@ -69,7 +69,7 @@ fn settle(
     ensures step { IsStep slots.now ours.old ours.new theirs.now store.now trail.new seen falsified node result }
 {
     if is_blocked(ours, trail, node) {
-        return Step::Kept;
+        return Visited::Kept;
     }
     let key = key_of(slots, node);
     let Some(list) = theirs.list_of(node) else {
@@ -81,17 +81,17 @@ fn settle(
     match look_at(store.clause(key), other, trail, starts, node) {
         Look::Keep => {
             ours.set_word(node, other.code());
-            Step::Kept
+            Visited::Kept
         }
         Look::Move(l) => {
             move_to(ours, list_of(l), node, other.code());
-            Step::Moved
+            Visited::Moved
         }
         Look::Force => {
             trail.assign(other, Some(key));
-            Step::Kept
+            Visited::Kept
         }
-        Look::Conflict => Step::Failed(key),
+        Look::Conflict => Visited::Failed(key),
     }
 }
 
@@ -123,9 +123,9 @@ fn visit(
     'nodes: while let Some(node) = at {
         let next = ours.next(node);
         match settle(ours, theirs, slots, starts, store, trail, falsified, node) {
-            Step::Failed(key) => return Some(key),
-            Step::Kept => {}
-            Step::Moved => {}
+            Visited::Failed(key) => return Some(key),
+            Visited::Kept => {}
+            Visited::Moved => {}
         }
         at = next;
     }

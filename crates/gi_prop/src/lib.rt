@@ -4,15 +4,13 @@
 mod follow;
 pub mod laws;
 mod look;
-mod places;
+mod positions;
 mod prop;
 mod room;
 mod starts;
-#[cfg(test)]
-mod tests;
 mod trail;
 mod truth;
-mod waits;
+mod unwatched;
 mod why;
 
 pub use prop::Prop;

@@ -1,8 +1,8 @@
 ghost use Rattle.std.specs.Prelude.{◌≡◌, ◌≢◌, ℕ, ◌+◌, ◌-◌, ◌*◌, ◌/◌, ◌<◌, ◌≤◌, Some, length, take, drop, Contains, IfSome, MatchOption};
 ghost use Rattle.gi_lit.specs.Literals.{max_var, IsLiteral};
 ghost use Rattle.std.specs.Option.{SomeIff};
-ghost use Rattle.gi_store.specs.Held.{IsWithin};
-ghost use Rattle.gi_prop.specs.Assigned.{IsLate};
+ghost use Rattle.gi_store.specs.StoreView.{IsWithin};
+ghost use Rattle.gi_prop.specs.TrailView.{IsLate};
 ghost use Rattle.gi_prop.specs.Watched.{IsIn, IsAside};
 ghost use Rattle.gi_prop.specs.Watching.{AreHome};
 ghost use Rattle.gi_prop.specs.Steps.{AreOthersFalse, IsLeft, IsSpare, IsLook};
@@ -43,7 +43,7 @@ pub(crate) enum Look {
 }
 
 /// What was done with a clause.
-pub(crate) enum Step {
+pub(crate) enum Visited {
     /// Its nodes stay where they are.
     Kept,
     /// They went to other lists.
@@ -80,7 +80,7 @@ pub(crate) fn watch_in(chains: &Chains, node: u64) -> Option<Lit>
 }
 
 /// Which different literals of the clause aren't false.
-pub(crate) fn left_of(clause: &[Lit], trail: &Trail) -> Left
+pub(crate) fn non_false(clause: &[Lit], trail: &Trail) -> Left
     requires { IsWithin trail.now.vars clause.now }
     ensures { IsLeft trail.now.lits clause.now result }
 {
@@ -163,7 +163,13 @@ fn up_to(clause: &[Lit], place: u32) -> &[Lit]
 }
 
 /// A literal of the clause beside this one that isn't false. The look begins where the last one ended, and goes on at the front.
-fn spare(clause: &[Lit], other: Lit, trail: &Trail, starts: &mut Starts, node: u64) -> Option<Lit>
+fn replacement(
+    clause: &[Lit],
+    other: Lit,
+    trail: &Trail,
+    starts: &mut Starts,
+    node: u64,
+) -> Option<Lit>
     requires { IsWithin trail.now.vars clause.now }
     ensures { IsSpare trail.now.lits clause.now other result }
 {
@@ -211,11 +217,11 @@ pub(crate) fn look_at(
 {
     match trail.value(other) {
         Some(true) => Look::Keep,
-        Some(false) => match spare(clause, other, trail, starts, node) {
+        Some(false) => match replacement(clause, other, trail, starts, node) {
             Some(l) => Look::Move(l),
             None => Look::Conflict,
         },
-        None => match spare(clause, other, trail, starts, node) {
+        None => match replacement(clause, other, trail, starts, node) {
             Some(l) => Look::Move(l),
             None => Look::Force,
         },
@@ -223,7 +229,7 @@ pub(crate) fn look_at(
 }
 
 /// The list of a clause that watches nothing.
-fn aside_for(clause: &[Lit]) -> u32
+fn unwatched_list(clause: &[Lit]) -> u32
     ensures { IsAside clause.now result }
 {
     if clause.is_empty() {
@@ -239,12 +245,12 @@ fn aside_for(clause: &[Lit]) -> u32
 }
 
 /// The lists in which the two nodes of the clause are to stand: those of two different literals that aren't false, if there are two.
-pub(crate) fn home_of(clause: &[Lit], trail: &Trail) -> (u32, u32)
+pub(crate) fn initial_watches(clause: &[Lit], trail: &Trail) -> (u32, u32)
     requires { IsWithin trail.now.vars clause.now }
     ensures { AreHome trail.now.lits clause.now result.0 result.1 }
 {
-    let list = aside_for(clause);
-    match left_of(clause, trail) {
+    let list = unwatched_list(clause);
+    match non_false(clause, trail) {
         Left::Two(a, b) => (list_of(a), list_of(b)),
         Left::One(_) => (list, list),
         Left::Nothing => (list, list),

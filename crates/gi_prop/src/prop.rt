@@ -1,14 +1,14 @@
 ghost use Rattle.std.specs.Prelude.{◌≡◌, ◌≢◌, ℕ, List, length, ◌↔◌, IfSome, IfNone, OnOk, OnErr, MatchOption};
-ghost use Rattle.gi_store.specs.Held.{Held, Holds, IsLive, IsWithin};
-ghost use Rattle.gi_prop.specs.Assigned.{Assigned};
+ghost use Rattle.gi_store.specs.StoreView.{StoreView, Holds, IsLive, IsWithin};
+ghost use Rattle.gi_prop.specs.TrailView.{TrailView};
 ghost use Rattle.gi_prop.specs.Attached.{Attached, IsAttached, Goes, HasSameKeys, Attaches, Detaches, AddsForced, AreSettled, IsConflict, Watches, HasWatches, KeepsWatches, HasTwoLeft, AreOfClause, AreWatched};
 
 use crate::follow::follow;
-use crate::look::{home_of, watch_in};
+use crate::look::{initial_watches, watch_in};
 use crate::room::make_room;
 use crate::starts::Starts;
 use crate::trail::Trail;
-use crate::waits::pass_all;
+use crate::unwatched::scan_all;
 use gi_chains::Chains;
 use gi_lit::{Lit, top_variable};
 use gi_store::{Key, Store};
@@ -44,7 +44,7 @@ impl Prop {
     /// A propagator with no key, which goes with every store and trail.
     pub fn new(alloc: Global) -> Prop
         ensures none { (k : ℕ) → ¬ IsAttached result k }
-        ensures goes { (s : Held) (t : Assigned) → Goes result s t }
+        ensures goes { (s : StoreView) (t : TrailView) → Goes result s t }
     {
         Prop {
             slots: Vec::new(alloc),
@@ -63,7 +63,7 @@ impl Prop {
         ensures attached { OnOk result (Attaches key self.old self.new) }
         ensures goes { Goes self.new store.now trail.now }
         ensures err { OnErr result (HasSameKeys self.old self.new) }
-        ensures err_goes { OnErr result ((s : Held) (t : Assigned) → Goes self.old s t → Goes self.new s t) }
+        ensures err_goes { OnErr result ((s : StoreView) (t : TrailView) → Goes self.old s t → Goes self.new s t) }
         ensures watched { OnOk result ((clause : List ℕ) → Holds store.now key clause → HasWatches self.new key ↔ HasTwoLeft trail.now.lits clause) }
         ensures others { (k : ℕ) → k ≢ key → KeepsWatches self.old self.new k }
         ensures err_watched { OnErr result (KeepsWatches self.old self.new key) }
@@ -80,7 +80,7 @@ impl Prop {
             lists,
             clause.len(),
         )?;
-        let home = home_of(clause, trail);
+        let home = initial_watches(clause, trail);
         self.slots[node as usize] = Some(key);
         self.first.push_front(home.0, node);
         self.second.push_front(home.1, node);
@@ -93,7 +93,7 @@ impl Prop {
     pub fn detach(&mut self, key: Key)
         requires { IsAttached self.old key }
         ensures detached { Detaches key self.old self.new }
-        ensures goes { (s : Held) (t : Assigned) → Goes self.old s t → Goes self.new s t }
+        ensures goes { (s : StoreView) (t : TrailView) → Goes self.old s t → Goes self.new s t }
         ensures others { (k : ℕ) → k ≢ key → KeepsWatches self.old self.new k }
     {
         let node = key.number();
@@ -119,7 +119,7 @@ impl Prop {
         let _ = trail.level();
         let _ = store.vars();
         let slots = self.slots.as_slice();
-        if let Some(key) = pass_all(&mut self.first, &mut self.second, slots, store, trail) {
+        if let Some(key) = scan_all(&mut self.first, &mut self.second, slots, store, trail) {
             return Some(key);
         }
         follow(
@@ -137,7 +137,7 @@ impl Prop {
     pub fn watches(&self, key: Key) -> Option<(Lit, Lit)>
         requires { IsAttached self.now key }
         ensures value { MatchOption result (¬ HasWatches self.now key) (λ w. Watches self.now key w.0 w.1) }
-        ensures literals { (s : Held) (t : Assigned) → Goes self.now s t → IfSome result (λ w. AreOfClause s key w.0 w.1) }
+        ensures literals { (s : StoreView) (t : TrailView) → Goes self.now s t → IfSome result (λ w. AreOfClause s key w.0 w.1) }
     {
         let node = key.number();
         match watch_in(&self.first, node) {

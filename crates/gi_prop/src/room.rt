@@ -1,4 +1,4 @@
-ghost use Rattle.std.specs.Prelude.{◌≡◌, ℕ, ◌+◌, ◌<◌, ◌≤◌, ◌++◌, None, length, replicate, vec_len, vec_capacity, OnOk};
+ghost use Rattle.std.specs.Prelude.{◌≡◌, ℕ, ◌+◌, ◌<◌, ◌≤◌, ◌++◌, None, length, replicate, vec_len, vec_capacity, IfOk, OnOk};
 ghost use Rattle.gi_chains.specs.Lists.{IsApart};
 ghost use Rattle.gi_prop.specs.Watching.{HasMore};
 
@@ -26,14 +26,29 @@ pub(crate) fn make_room(
     ensures nodes { OnOk result ((node < first.new.nodes) × (node < second.new.nodes)) }
     ensures lists { OnOk result ((lists ≤ length first.new.lists) × (lists ≤ length second.new.lists)) }
 {
-    starts.reach(node, len)?;
-    let most = (node as usize).checked_add(1).ok_or(AllocError)?;
-    let more = most.saturating_sub(slots.len());
-    slots.reserve(more)?;
+    let more = reserve_slots(slots, starts, node, len)?;
     first.grow(lists, node)?;
     second.grow(lists, node)?;
     add_slots(slots, more);
     Ok(())
+}
+
+/// Makes room for the slots up to a number's, and a place in a clause of so many literals. Tells how many slots are missing.
+fn reserve_slots(
+    slots: &mut Vec<Option<Key>>,
+    starts: &mut Starts,
+    node: u64,
+    len: usize,
+) -> Result<usize, AllocError>
+    ensures slots { slots.new.items ≡ slots.old.items }
+    ensures long { IfOk result (λ more. node < vec_len slots.new + more) }
+    ensures room { IfOk result (λ more. vec_len slots.new + more ≤ vec_capacity slots.new) }
+{
+    starts.reach(node, len)?;
+    let most = (node as usize).checked_add(1).ok_or(AllocError)?;
+    let more = most.saturating_sub(slots.len());
+    slots.reserve(more)?;
+    Ok(more)
 }
 
 /// Adds slots without a key.

@@ -1,10 +1,10 @@
 ghost use Rattle.std.specs.Prelude.{◌≡◌, ℕ, ◌+◌, ◌-◌, ◌*◌, ◌/◌, ◌≤◌, ◌<◌, [], ◌∷◌, ◌++◌, length, max, None, slice_index, slice_index_or, OnOk, OnErr, MatchOption, IsTrue, ◌↔◌, All, Contains};
 ghost use Rattle.gi_lit.specs.Literals.{opposite};
-ghost use Rattle.gi_store.specs.Held.{Held};
+ghost use Rattle.gi_store.specs.StoreView.{StoreView};
 ghost use Rattle.gi_prop.specs.Attached.{Attached, Goes};
-ghost use Rattle.gi_prop.specs.Assigned.{Assigned, no_lits, HasValue, StandsAt, IsUnassigned, IsLevelAt, with_lit, with_level, cancelled, IsTrail, IsLate, IsUnseen};
+ghost use Rattle.gi_prop.specs.TrailView.{TrailView, no_lits, HasValue, StandsAt, IsUnassigned, IsLevelAt, with_lit, with_level, cancelled, IsTrail, IsLate, IsUnseen};
 
-use crate::places::{add_places, add_values, unwind};
+use crate::positions::{add_positions, add_values, unwind};
 use crate::truth::Truth;
 use crate::why::Why;
 use gi_chains::Link;
@@ -19,24 +19,23 @@ use std::marker::Model;
 pub struct Trail {
     lits: Vec<Lit>,
     reasons: Vec<Why>,
-    levels: Vec<u32>,
-    places: Vec<Link>,
+    positions: Vec<Link>,
     values: Vec<Truth>,
-    marks: Vec<u32>,
+    level_starts: Vec<u32>,
     head: usize,
-    heads: Vec<u32>,
+    qheads: Vec<u32>,
 }
 
 impl Model for Trail {
     ghost use Rattle.std.specs.Prelude.{length, vec_capacity};
-    ghost use Rattle.gi_prop.specs.Assigned.{Assigned};
+    ghost use Rattle.gi_prop.specs.TrailView.{TrailView};
     ghost use Rattle.gi_prop.specs.Laid.{IsLaid};
 
-    ghost Value = { Assigned };
+    ghost Value = { TrailView };
 
-    ghost view = { λ t. record { vars = length t.places.items; lits = t.lits.items; reasons = t.reasons.items; marks = t.marks.items; head = t.head; heads = t.heads.items } };
+    ghost view = { λ t. record { vars = length t.positions.items; lits = t.lits.items; reasons = t.reasons.items; level_starts = t.level_starts.items; head = t.head; qheads = t.qheads.items } };
 
-    ghost invariant = { λ t. IsLaid t.places.items t.values.items t.lits.items t.reasons.items t.levels.items t.marks.items t.head t.heads.items (vec_capacity t.lits) (vec_capacity t.reasons) (vec_capacity t.levels) };
+    ghost invariant = { λ t. IsLaid t.positions.items t.values.items t.lits.items t.reasons.items t.level_starts.items t.head t.qheads.items (vec_capacity t.lits) (vec_capacity t.reasons) };
 }
 
 impl Trail {
@@ -47,29 +46,27 @@ impl Trail {
         Trail {
             lits: Vec::new(alloc),
             reasons: Vec::new(alloc),
-            levels: Vec::new(alloc),
-            places: Vec::new(alloc),
+            positions: Vec::new(alloc),
             values: Vec::new(alloc),
-            marks: Vec::new(alloc),
+            level_starts: Vec::new(alloc),
             head: 0,
-            heads: Vec::new(alloc),
+            qheads: Vec::new(alloc),
         }
     }
 
     /// Makes the count of variables at least `n`, with room for a literal of each. Unchanged after an error.
     pub fn grow(&mut self, n: u32) -> Result<(), AllocError>
         ensures ok { OnOk result (self.new ≡ record self.old { vars = max self.old.vars n }) }
-        ensures goes { (p : Attached) (s : Held) → Goes p s self.old → Goes p s self.new }
+        ensures goes { (p : Attached) (s : StoreView) → Goes p s self.old → Goes p s self.new }
         ensures err { OnErr result (self.new ≡ self.old) }
     {
-        let more = (n as usize).saturating_sub(self.places.len());
+        let more = (n as usize).saturating_sub(self.positions.len());
         let room = (n as usize).saturating_sub(self.lits.len());
         self.lits.reserve(room)?;
         self.reasons.reserve(room)?;
-        self.levels.reserve(room)?;
-        self.places.reserve(more)?;
+        self.positions.reserve(more)?;
         self.values.reserve(more)?;
-        add_places(&mut self.places, more);
+        add_positions(&mut self.positions, more);
         add_values(&mut self.values, more);
         Ok(())
     }
@@ -78,7 +75,7 @@ impl Trail {
     pub fn vars(&self) -> usize
         ensures { result ≡ self.now.vars }
     {
-        self.places.len()
+        self.positions.len()
     }
 
     /// Whether the literal is true or false; None exactly where it is neither. In constant time.
@@ -99,75 +96,89 @@ impl Trail {
         ensures added { self.new ≡ with_lit l why self.old }
         ensures room { length self.old.lits < self.old.vars }
         ensures trail { IsTrail self.new }
-        ensures goes { (p : Attached) (s : Held) → Goes p s self.old → Goes p s self.new }
+        ensures goes { (p : Attached) (s : StoreView) → Goes p s self.old → Goes p s self.new }
     {
         let at = (l.var().index() - 1) as usize;
-        self.places[at] = Link::to(self.lits.len() as u32);
+        self.positions[at] = Link::to(self.lits.len() as u32);
         self.values[at] = Truth::of(!l.is_negative());
-        self.levels.push_reserved(self.marks.len() as u32);
         self.lits.push_reserved(l);
         self.reasons.push_reserved(Why::of(why));
     }
 
     /// Begins a level: the present one rises by one. Unchanged after an error.
     pub fn push_level(&mut self) -> Result<(), AllocError>
-        requires { length self.old.marks < 4294967295 }
+        requires { length self.old.level_starts < 4294967295 }
         ensures ok { OnOk result (self.new ≡ with_level self.old) }
-        ensures goes { (p : Attached) (s : Held) → Goes p s self.old → Goes p s self.new }
+        ensures goes { (p : Attached) (s : StoreView) → Goes p s self.old → Goes p s self.new }
         ensures err { OnErr result (self.new ≡ self.old) }
     {
-        self.marks.reserve(1)?;
-        self.heads.reserve(1)?;
-        self.marks.push_reserved(self.lits.len() as u32);
-        self.heads.push_reserved(self.head as u32);
+        self.level_starts.reserve(1)?;
+        self.qheads.reserve(1)?;
+        self.level_starts.push_reserved(self.lits.len() as u32);
+        self.qheads.push_reserved(self.head as u32);
+        Ok(())
+    }
+
+    /// Begins a level with an unassigned literal. Where the levels are no more than the literals, there is room for one more.
+    pub fn decide(&mut self, l: Lit) -> Result<(), AllocError>
+        requires within { l / 2 ≤ self.old.vars }
+        requires free { HasValue self.old.lits l None }
+        requires levels { length self.old.level_starts ≤ length self.old.lits }
+        ensures ok { OnOk result (self.new ≡ with_lit l None (with_level self.old)) }
+        ensures room { OnOk result (length self.old.lits < self.old.vars) }
+        ensures goes { (p : Attached) (s : StoreView) → Goes p s self.old → Goes p s self.new }
+        ensures err { OnErr result (self.new ≡ self.old) }
+    {
+        let _index = l.var().index();
+        let _ = &self.lits;
+        self.push_level()?;
+        self.assign(l, None);
         Ok(())
     }
 
     /// The present level, 0 before any was begun.
     pub fn level(&self) -> u32
-        ensures value { result ≡ length self.now.marks }
+        ensures value { result ≡ length self.now.level_starts }
         ensures trail { IsTrail self.now }
     {
-        self.marks.len() as u32
+        self.level_starts.len() as u32
     }
 
     /// How long the trail was when the level above this one began.
     pub fn start_of(&self, level: u32) -> usize
-        requires { level < length self.now.marks }
-        ensures { result ≡ slice_index self.now.marks level }
+        requires { level < length self.now.level_starts }
+        ensures { result ≡ slice_index self.now.level_starts level }
     {
-        self.marks[level as usize] as usize
+        self.level_starts[level as usize] as usize
     }
 
     /// Takes the levels above this one away, with their literals. Takes no memory, and time in the number of literals that go.
     pub fn cancel_to(&mut self, level: u32)
-        requires { level ≤ length self.old.marks }
+        requires { level ≤ length self.old.level_starts }
         ensures after { self.new ≡ cancelled level self.old }
-        ensures goes { (p : Attached) (s : Held) → Goes p s self.old → Goes p s self.new }
+        ensures goes { (p : Attached) (s : StoreView) → Goes p s self.old → Goes p s self.new }
     {
         let level = level as usize;
-        if level >= self.marks.len() {
+        if level >= self.level_starts.len() {
             return;
         }
-        let len = self.marks[level] as usize;
-        self.head = self.heads[level] as usize;
-        self.marks.truncate(level);
-        self.heads.truncate(level);
-        unwind(&mut self.lits, &mut self.places, &mut self.values, len);
+        let len = self.level_starts[level] as usize;
+        self.head = self.qheads[level] as usize;
+        self.level_starts.truncate(level);
+        self.qheads.truncate(level);
+        unwind(&mut self.lits, &mut self.positions, &mut self.values, len);
         self.reasons.truncate(len);
-        self.levels.truncate(len);
     }
 
     /// Takes every literal and level away, those of level 0 too. Takes no memory.
     pub fn clear(&mut self)
         ensures after { self.new ≡ no_lits self.old.vars }
-        ensures goes { (p : Attached) (s : Held) → Goes p s self.old → Goes p s self.new }
+        ensures goes { (p : Attached) (s : StoreView) → Goes p s self.old → Goes p s self.new }
     {
-        unwind(&mut self.lits, &mut self.places, &mut self.values, 0);
+        unwind(&mut self.lits, &mut self.positions, &mut self.values, 0);
         self.reasons.clear();
-        self.levels.clear();
-        self.marks.clear();
-        self.heads.clear();
+        self.level_starts.clear();
+        self.qheads.clear();
         self.head = 0;
     }
 
@@ -184,7 +195,7 @@ impl Trail {
         requires { v ≤ self.now.vars }
         ensures { MatchOption result (IsUnassigned self.now.lits v) (StandsAt self.now.lits v) }
     {
-        match self.places[(v.index() - 1) as usize].get() {
+        match self.positions[(v.index() - 1) as usize].get() {
             None => None,
             Some(place) => Some(place as usize),
         }
@@ -202,14 +213,14 @@ impl Trail {
         }
     }
 
-    /// The level at which the variable was assigned. None exactly where it is unassigned. In constant time.
+    /// The level at which the variable was assigned. None exactly where it is unassigned. Found among the levels by halves.
     pub fn level_of(&self, v: Var) -> Option<u32>
         requires { v ≤ self.now.vars }
-        ensures { MatchOption result (IsUnassigned self.now.lits v) (λ n. (p : ℕ) × StandsAt self.now.lits v p × IsLevelAt self.now.marks p n) }
+        ensures { MatchOption result (IsUnassigned self.now.lits v) (λ n. (p : ℕ) × StandsAt self.now.lits v p × IsLevelAt self.now.level_starts p n) }
     {
         match self.place_of(v) {
             None => None,
-            Some(place) => Some(self.levels[place]),
+            Some(place) => Some(level_at(self.level_starts.as_slice(), place)),
         }
     }
 
@@ -239,12 +250,12 @@ impl Trail {
 
     /// How much of the trail had been looked at when the last level began.
     fn last_head(&self) -> usize
-        ensures { All (λ h. h ≤ result) self.now.heads }
+        ensures { All (λ h. h ≤ result) self.now.qheads }
     {
-        if self.heads.is_empty() {
+        if self.qheads.is_empty() {
             return 0;
         }
-        self.heads[self.heads.len() - 1] as usize
+        self.qheads[self.qheads.len() - 1] as usize
     }
 
     /// Whether a literal of the variable stands behind what had been looked at when the last level began. In constant time.
@@ -277,4 +288,13 @@ impl Trail {
     {
         self.head += 1;
     }
+}
+
+/// The level of a place: how many levels began there or before.
+fn level_at(starts: &[u32], place: usize) -> u32
+    requires few { length starts.now ≤ 4294967295 }
+    requires ordered { (i j : ℕ) → i ≤ j → j < length starts.now → slice_index starts.now i ≤ slice_index starts.now j }
+    ensures { IsLevelAt starts.now place result }
+{
+    starts.partition_point(|start| *start as usize <= place) as u32
 }

@@ -1,6 +1,6 @@
 use Rattle.std.proofs.Common.{◌≡◌, ◌≤◌, ◌/◌, ℕ, Some, None, get_or, List, refl, sym, ◌∙◌, subst, arith}
 use Rattle.std.specs.List.{Contains}
-use Rattle.gi_store.specs.Held.{IsLive, IsWithin}
+use Rattle.gi_store.specs.StoreView.{IsLive, IsWithin}
 use Rattle.gi_prop.specs.Attached.{IsAttached, keys_alone}
 use Rattle.gi_prop.proofs.Adding.{held_live}
 use Rattle.gi_prop.proofs.Slots.{attached_by}

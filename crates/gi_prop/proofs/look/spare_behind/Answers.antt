@@ -1,6 +1,6 @@
 use Rattle.std.proofs.Common.{◌/◌, ◌≤◌, sym, subst}
 use Rattle.std.proofs.lemmas.List.Elements.{All-drop}
-use Rattle.gi_store.specs.Held.{IsWithin}
+use Rattle.gi_store.specs.StoreView.{IsWithin}
 use Rattle.gi_prop.proofs.Seeking.{spare_behind}
 use Rattle.gi_prop.proofs.look.spare_behind.Goals as goal
 

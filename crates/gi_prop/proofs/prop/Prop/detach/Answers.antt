@@ -32,30 +32,19 @@ invariant_of-self c =
     let ds = dropped_as c.self.inside.second c.unlink-2.new.self s.0 c.args.key c.number-node.result c.number-node.ensures.value c.self.invariant.second_linked.apart s.1 c.unlink-2.ensures.after c.unlink-2.ensures.apart in
     rw c.number-node.ensures.value (kept_drop c.self.inside.slots.items _ _ _ _ c.args.key below df ds c.self.invariant)
 
-pub returns-clause-detached : goal.returns-clause-detached
-returns-clause-detached c =
+pub returns : goal.returns
+returns c =
     let at : get_or c.self.inside.slots.items c.args.key None ≡ Some c.args.key = attached_at _ c.args.key (subst (λ (p : Attached). IsAttached p c.args.key) (sym c.self.view_is) c.requires) in
     let below = slot_below c.self.inside.slots.items c.args.key at in
-    detaches c.self.inside.slots.items c.args.key below _ _ (sym (ap (λ (z : Attached). z.slots) c.self.view_is)) (ap (λ (n : ℕ). set c.self.inside.slots.items n None) c.number-node.ensures.value)
-
-pub returns-clause-goes : goal.returns-clause-goes
-returns-clause-goes c =
-    let at : get_or c.self.inside.slots.items c.args.key None ≡ Some c.args.key = attached_at _ c.args.key (subst (λ (p : Attached). IsAttached p c.args.key) (sym c.self.view_is) c.requires) in
-    let below = slot_below c.self.inside.slots.items c.args.key at in
+    let gone = ap (λ (n : ℕ). set c.self.inside.slots.items n None) c.number-node.ensures.value in
+    let old : Attached = record { slots = c.self.inside.slots.items; first = c.self.inside.first; second = c.self.inside.second } in
+    let new : Attached = record { slots = set c.self.inside.slots.items c.number-node.result None; first = c.unlink.new.self; second = c.unlink-2.new.self } in
     let f = c.self.invariant.first_linked.linked c.args.key at in
     let s = c.self.invariant.second_linked.linked c.args.key at in
     let df = dropped_as c.self.inside.first c.unlink.new.self f.0 c.args.key c.number-node.result c.number-node.ensures.value c.self.invariant.first_linked.apart f.1 c.unlink.ensures.after c.unlink.ensures.apart in
     let ds = dropped_as c.self.inside.second c.unlink-2.new.self s.0 c.args.key c.number-node.result c.number-node.ensures.value c.self.invariant.second_linked.apart s.1 c.unlink-2.ensures.after c.unlink-2.ensures.apart in
-    λ h t g. goes_drop (record { slots = c.self.inside.slots.items; first = c.self.inside.first; second = c.self.inside.second }) _ c.args.key below (ap (λ (n : ℕ). set c.self.inside.slots.items n None) c.number-node.ensures.value) df ds h t (subst (λ (z : Attached). Goes z h t) (sym c.self.view_is) g)
-
-pub returns-clause-others : goal.returns-clause-others
-returns-clause-others c =
-    let at : get_or c.self.inside.slots.items c.args.key None ≡ Some c.args.key = attached_at _ c.args.key (subst (λ (p : Attached). IsAttached p c.args.key) (sym c.self.view_is) c.requires) in
-    let below = slot_below c.self.inside.slots.items c.args.key at in
-    let f = c.self.invariant.first_linked.linked c.args.key at in
-    let s = c.self.invariant.second_linked.linked c.args.key at in
-    let df = dropped_as c.self.inside.first c.unlink.new.self f.0 c.args.key c.number-node.result c.number-node.ensures.value c.self.invariant.first_linked.apart f.1 c.unlink.ensures.after c.unlink.ensures.apart in
-    let ds = dropped_as c.self.inside.second c.unlink-2.new.self s.0 c.args.key c.number-node.result c.number-node.ensures.value c.self.invariant.second_linked.apart s.1 c.unlink-2.ensures.after c.unlink-2.ensures.apart in
-    λ k ne.
-    let r = watches_drop (record { slots = c.self.inside.slots.items; first = c.self.inside.first; second = c.self.inside.second }) (record { slots = set c.self.inside.slots.items c.number-node.result None; first = c.unlink.new.self; second = c.unlink-2.new.self }) c.args.key below (ap (λ (n : ℕ). set c.self.inside.slots.items n None) c.number-node.ensures.value) df ds k ne in
-    subst (λ (z : Attached). KeepsWatches z (record { slots = set c.self.inside.slots.items c.number-node.result None; first = c.unlink.new.self; second = c.unlink-2.new.self }) k) c.self.view_is r
+    record {
+      detached = detaches c.self.inside.slots.items c.args.key below _ _ (sym (ap (λ (z : Attached). z.slots) c.self.view_is)) gone;
+      goes = λ h t g. goes_drop old new c.args.key below gone df ds h t (subst (λ (z : Attached). Goes z h t) (sym c.self.view_is) g);
+      others = λ k ne. subst (λ (z : Attached). KeepsWatches z new k) c.self.view_is (watches_drop old new c.args.key below gone df ds k ne);
+    }

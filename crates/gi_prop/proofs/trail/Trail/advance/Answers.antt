@@ -6,5 +6,5 @@ use Rattle.gi_prop.proofs.trail.Trail.advance.Goals as goal
 pub returns-clause-trail : goal.returns-clause-trail
 returns-clause-trail c =
     let lt : c.self.inside.head < length c.self.inside.lits.items = rw (← c.self.view_is) at c.requires in
-    let t = laid_trail _ _ _ _ _ _ _ _ _ _ _ c.self.invariant in
-    record { within = t.within; room = t.room; apart = t.apart; consistent = t.consistent; reasons = t.reasons; levels = AreLevels-next _ _ _ _ c.self.invariant.begun lt }
+    let t = laid_trail _ _ _ _ _ _ _ _ _ c.self.invariant in
+    record { few = t.few; within = t.within; room = t.room; apart = t.apart; consistent = t.consistent; reasons = t.reasons; levels = AreLevels-next _ _ _ _ c.self.invariant.begun lt }

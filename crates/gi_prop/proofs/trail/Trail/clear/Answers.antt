@@ -3,4 +3,4 @@ use Rattle.gi_prop.proofs.Keys.{goes_unseen}
 use Rattle.gi_prop.proofs.trail.Trail.clear.Goals as goal
 
 pub returns-clause-goes : goal.returns-clause-goes
-returns-clause-goes c = goes_unseen _ _ _ c.self.view_is (omega (arith, c.unwind.ensures.places)) refl
+returns-clause-goes c = goes_unseen _ _ _ c.self.view_is (omega (arith, c.unwind.ensures.positions)) refl

@@ -1,10 +1,10 @@
 use Rattle.std.proofs.Common.{subst}
-use Rattle.gi_prop.specs.Assigned.{IsTrail}
+use Rattle.gi_prop.specs.TrailView.{IsTrail}
 use Rattle.gi_prop.proofs.Laying.{laid_trail}
 use Rattle.gi_prop.proofs.trail.Trail.unseen.Goals as goal
 
 pub returns-then-self-len-clause-trail : goal.returns-then-self-len-clause-trail
-returns-then-self-len-clause-trail c = subst IsTrail c.self.view_is (laid_trail _ _ _ _ _ _ _ _ _ _ _ c.self.invariant)
+returns-then-self-len-clause-trail c = subst IsTrail c.self.view_is (laid_trail _ _ _ _ _ _ _ _ _ c.self.invariant)
 
 pub returns-clause-trail : goal.returns-clause-trail
-returns-clause-trail c = subst IsTrail c.self.view_is (laid_trail _ _ _ _ _ _ _ _ _ _ _ c.self.invariant)
+returns-clause-trail c = subst IsTrail c.self.view_is (laid_trail _ _ _ _ _ _ _ _ _ c.self.invariant)
