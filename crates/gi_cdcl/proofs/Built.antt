@@ -5,8 +5,8 @@ use Rattle.std.proofs.lemmas.Bool.{cases_lt, cases_eq, cases_Bool, false≢true}
 use Rattle.std.proofs.lemmas.List.Elements.{Contains-append_left, Contains-push, Contains-push_cases}
 use Rattle.gi_lit.specs.Literals.{opposite}
 use Rattle.gi_lit.proofs.Literals.{opposite-injective}
-use Rattle.gi_store.specs.Held.{Held}
-use Rattle.gi_prop.specs.Assigned.{Assigned, IsLevelAt, IsTrail}
+use Rattle.gi_store.specs.StoreView.{StoreView}
+use Rattle.gi_prop.specs.TrailView.{TrailView, IsLevelAt, IsTrail}
 use Rattle.gi_cdcl.specs.Uip.{IsUip, IsJump}
 use Rattle.gi_cdcl.specs.Marks.{IsCut, IsBuilt, IsLast, IsLastOf, IsLastIn, IsAmong, IsBuiltOf}
 use Rattle.gi_cdcl.specs.Touched.{AreMarked}
@@ -72,7 +72,7 @@ built_marked lits seen touched top n clause last a b = record {
     go None q = λ k lt. elim (cases_Bool (get_or seen k false)) [ inl up ↦ absurd (let b = q k (a.all k up) in omega (arith, b, lt)) | inr down ↦ down ]
     go (Some p) q = (q.0, a.only p q.1, λ k pk lt. elim (cases_Bool (get_or seen k false)) [ inl up ↦ absurd (let b = q.2 k (a.all k up) lt in omega (arith, b, pk)) | inr down ↦ down ])
 
-module _ (h : Held) (t : Assigned) (tr : IsTrail t) (conflict : List ℕ) (start : ℕ) (seen : List Bool) (top : ℕ) (clause : List ℕ) (last : Option ℕ) (c : IsCut h t conflict start seen top) (b : IsBuilt t.lits seen top start clause last) where
+module _ (h : StoreView) (t : TrailView) (tr : IsTrail t) (conflict : List ℕ) (start : ℕ) (seen : List Bool) (top : ℕ) (clause : List ℕ) (last : Option ℕ) (c : IsCut h t conflict start seen top) (b : IsBuilt t.lits seen top start clause last) where
   start_low : start < length t.lits
   start_low = let l = c.low in let g = c.high in omega arith
 
@@ -125,7 +125,7 @@ module _ (h : Held) (t : Assigned) (tr : IsTrail t) (conflict : List ℕ) (start
       ]
 
   -- with no such literal the search goes back to level 0
-  pub built_bottom : last ≡ None → 0 < length t.marks → IsJump t clause start 0
+  pub built_bottom : last ≡ None → 0 < length t.level_starts → IsJump t clause start 0
   built_bottom e deep =
       let l : IsLast seen start None = subst (IsLast seen start) e b.last_is in
       record {
@@ -135,12 +135,12 @@ module _ (h : Held) (t : Assigned) (tr : IsTrail t) (conflict : List ℕ) (start
       }
 
   -- else to the level of the last of them
-  pub built_jump : (p level : ℕ) → last ≡ Some p → 0 < length t.marks → start ≡ get_or t.marks (length t.marks - 1) 0 → IsLevelAt t.marks p level → IsJump t clause start level
+  pub built_jump : (p level : ℕ) → last ≡ Some p → 0 < length t.level_starts → start ≡ get_or t.level_starts (length t.level_starts - 1) 0 → IsLevelAt t.level_starts p level → IsJump t clause start level
   built_jump p level e deep start_is at =
       let l : IsLast seen start (Some p) = subst (IsLast seen start) e b.last_is in
-      let below : level < length t.marks = elim (cases_lt level (length t.marks)) [
+      let below : level < length t.level_starts = elim (cases_lt level (length t.level_starts)) [
         | inl lt ↦ lt
-        | inr le ↦ absurd (let low = at.begun (length t.marks - 1) (omega arith) in omega (arith, l.0, low, start_is))
+        | inr le ↦ absurd (let low = at.begun (length t.level_starts - 1) (omega arith) in omega (arith, l.0, low, start_is))
       ] in
       record {
         below = below;

@@ -11,12 +11,13 @@ use Rattle.gi_lit.specs.Problem.{Problem, full, without}
 use Rattle.gi_lit.specs.Learnt.{IsImplied, IsFresh, IsDerived, AreFresh}
 use Rattle.gi_lit.proofs.Literals.{opposite-opposite}
 use Rattle.gi_lit.proofs.Closure.{derived_implied}
-use Rattle.gi_store.specs.Held.{Held, problem_of, known_of}
-use Rattle.gi_prop.specs.Assigned.{Assigned, IsTrail}
-use Rattle.gi_cdcl.specs.Sound.{stored, IsUsed, IsSupported, IsSound}
+use Rattle.gi_store.specs.StoreView.{StoreView, problem_of, known_of}
+use Rattle.gi_prop.specs.TrailView.{TrailView, IsTrail}
+use Rattle.gi_cdcl.specs.Sound.{stored, IsUsed, IsSupported, IsTrailSound}
 use Rattle.gi_cdcl.specs.Uip.{IsResolved, IsUip}
 use Rattle.gi_cdcl.specs.Uip.IsResolved.{begins, passes, resolves}
-use Rattle.gi_cdcl.proofs.Lists.{Contains-take, without_has}
+use Rattle.gi_prop.proofs.Fronts.{Contains-take}
+use Rattle.gi_cdcl.proofs.Lists.{without_has}
 use Rattle.gi_cdcl.proofs.Uip.{IsOneHigh, holds_stored, uip_one_high, uip_conflicts}
 
 -- what is known beside the clauses of the problem is implied
@@ -24,7 +25,7 @@ pub satisfies_all : (p : Problem) (known : List (List ℕ)) → All (IsImplied p
 satisfies_all p known i values s = record { each = All-append (λ c. clause_true values c ≡ true) (full p) known s.each (λ k d lt. (i k d lt).each values s) }
 
 -- the literals of a clause that was resolved stand in stored clauses
-pub resolved_used : (h : Held) (t : Assigned) (conflict : List ℕ) (start : ℕ) → All (All (IsUsed h)) (stored h) → Contains (stored h) conflict → (k : ℕ) (c : List ℕ) → IsResolved h t conflict start k c → (m : ℕ) → Contains c m → IsUsed h m
+pub resolved_used : (h : StoreView) (t : TrailView) (conflict : List ℕ) (start : ℕ) → All (All (IsUsed h)) (stored h) → Contains (stored h) conflict → (k : ℕ) (c : List ℕ) → IsResolved h t conflict start k c → (m : ℕ) → Contains c m → IsUsed h m
 resolved_used h t conflict start u stands k c begins m inside = All-contains (IsUsed h) conflict m (All-contains (All (IsUsed h)) (stored h) conflict u stands) inside
 resolved_used h t conflict start u stands k c (passes k' c' r free) m inside = resolved_used h t conflict start u stands (k + 1) c r m inside
 resolved_used h t conflict start u stands k e (resolves k' key c reason r at high why holds g) m inside = elim (Contains-append_cases (without (opposite (get_or t.lits k 0)) c) (without (get_or t.lits k 0) reason) m inside) [
@@ -32,7 +33,7 @@ resolved_used h t conflict start u stands k e (resolves k' key c reason r at hig
   | inr right ↦ let w = without_has _ reason m right in All-contains (IsUsed h) reason m (All-contains (All (IsUsed h)) (stored h) reason u (holds_stored h key reason holds)) w.0
 ]
 
-module _ (h : Held) (t : Assigned) (tr : IsTrail t) (start : ℕ) (closed : IsClosed (stored h) (take start t.lits)) (learnt : List ℕ) (o : IsOneHigh t.lits start learnt) where
+module _ (h : StoreView) (t : TrailView) (tr : IsTrail t) (start : ℕ) (closed : IsClosed (stored h) (take start t.lits)) (learnt : List ℕ) (o : IsOneHigh t.lits start learnt) where
   -- each literal of it is false
   pub is_false : (m : ℕ) → Contains learnt m → Contains t.lits (opposite m)
   is_false m k = elim (o.rest m k) [
@@ -54,12 +55,12 @@ module _ (h : Held) (t : Assigned) (tr : IsTrail t) (start : ℕ) (closed : IsCl
   no_opposites m a b = tr.consistent.each (opposite m) (is_false m a) (is_false (opposite m) b)
 
 -- the clauses as the problem and what is known
-module _ (h : Held) (are : stored h ≡ full (problem_of h) ++ known_of h) (known : All (IsImplied (problem_of h)) (known_of h)) where
+module _ (h : StoreView) (are : stored h ≡ full (problem_of h) ++ known_of h) (known : All (IsImplied (problem_of h)) (known_of h)) where
   derived_fresh : (c : List ℕ) → Conflicts (stored h) (map opposite c) → IsImplied (problem_of h) c
   derived_fresh c d = record { each = λ values s. derived_implied (full (problem_of h) ++ known_of h) c (subst (λ cs. Conflicts cs (map opposite c)) are d) values (satisfies_all (problem_of h) (known_of h) known values s) }
 
   -- what a conflict teaches is fresh and derived
-  pub uip_fresh : (t : Assigned) → IsTrail t → (conflict : List ℕ) (start : ℕ) (clause : List ℕ) → IsClosed (stored h) (take start t.lits) → All (All (IsUsed h)) (stored h)
+  pub uip_fresh : (t : TrailView) → IsTrail t → (conflict : List ℕ) (start : ℕ) (clause : List ℕ) → IsClosed (stored h) (take start t.lits) → All (All (IsUsed h)) (stored h)
       → Contains (stored h) conflict → IsFalsified t.lits conflict → IsUip h t conflict start clause → IsFresh (problem_of h) (known_of h) clause × IsDerived (problem_of h) (known_of h) clause
   uip_fresh t tr conflict start clause closed used stands f u =
       let o = uip_one_high h t conflict start f clause u in
@@ -89,15 +90,15 @@ module _ (h : Held) (are : stored h ≡ full (problem_of h) ++ known_of h) (know
       nonempty c lt sub = let q = sub 0 0 lt in omega (arith, q.1)
 
 -- with no level, the trail derives from nothing
-root_derives : (h : Held) (t : Assigned) → IsSound h t → length t.marks ≡ 0 → IsDerivation (stored h) [] t.lits
+root_derives : (h : StoreView) (t : TrailView) → IsTrailSound h t → length t.level_starts ≡ 0 → IsDerivation (stored h) [] t.lits
 root_derives h t s root = record { each = λ k lt. go k (get_or t.reasons k None) (s.each k lt) }
   where
     go : (k : ℕ) (o : Option ℕ) → IsSupported h t k o → IsStep (stored h) [] (take k t.lits) (get_or t.lits k 0)
-    go k None u = absurd (let lt : u.0 < length t.marks = u.1 in omega arith)
+    go k None u = absurd (let lt : u.0 < length t.level_starts = u.1 in omega arith)
     go k (Some r) u = inr (u.0, holds_stored h r u.0 u.1, u.2)
 
 -- a conflict with no level
-pub root_conflict : (h : Held) (t : Assigned) (c : List ℕ) → IsSound h t → length t.marks ≡ 0 → Contains (stored h) c → IsFalsified t.lits c → Conflicts (stored h) []
+pub root_conflict : (h : StoreView) (t : TrailView) (c : List ℕ) → IsTrailSound h t → length t.level_starts ≡ 0 → Contains (stored h) c → IsFalsified t.lits c → Conflicts (stored h) []
 root_conflict h t c s root stands f = record { lits = t.lits; derived = root_derives h t s root; clash = inr (c, stands, f) }
 
 -- one more fresh clause

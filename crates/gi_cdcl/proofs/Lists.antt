@@ -1,4 +1,4 @@
--- Lists by place, and what is left of a clause without a literal.
+-- What lists contain, and what is left of a clause without a literal.
 use Rattle.std.proofs.Common.{◌≡◌, ◌≢◌, ℕ, ◌<◌, not, ◌==◌, List, [], ◌∷◌, length, take, map, get_or, refl, sym, ap, ◌∙◌, subst, arith, ◌⊎◌, inl, inr}
 use Rattle.std.specs.List.{Contains, filter}
 use Rattle.std.proofs.lemmas.Bool.{cases_eq, eq-eqb, ne_eqb}
@@ -11,20 +11,6 @@ Contains-nil x c = omega (arith, c.1)
 
 pub Contains-head : {X : Type 0} (x : X) (xs : List X) → Contains (x ∷ xs) x
 Contains-head x xs = (0, omega arith, refl)
-
--- an element of a front, by its place
-pub place_in_take : (n : ℕ) (xs : List ℕ) (x : ℕ) → Contains (take n xs) x → (k : ℕ) × (k < n) × (k < length xs) × (get_or xs k 0 ≡ x)
-place_in_take n xs x h =
-    let lt : h.0 < length (take n xs) = h.1 in
-    let below : h.0 < n = omega (arith, length-take n xs) in
-    let within : h.0 < length xs = omega (arith, length-take n xs) in
-    (h.0, below, within, get_or_default xs h.0 0 x within ∙ (sym (get_or-take n xs h.0 x below) ∙ h.2))
-
-pub Contains-take : (n : ℕ) (xs : List ℕ) (x : ℕ) → Contains (take n xs) x → Contains xs x
-Contains-take n xs x h = let p = place_in_take n xs x h in (p.0, p.2, get_or_default xs p.0 x 0 p.2 ∙ p.3)
-
-pub front_contains : (n : ℕ) (xs : List ℕ) (k : ℕ) → k < n → k < length xs → Contains (take n xs) (get_or xs k 0)
-front_contains n xs k lt within = (k, omega (arith, length-take n xs), get_or-take n xs k (get_or xs k 0) lt ∙ get_or_default xs k (get_or xs k 0) 0 within)
 
 pub Contains-map : {X Y : Type 0} (f : X → Y) (xs : List X) (x : X) → Contains xs x → Contains (map f xs) (f x)
 Contains-map f xs x h = (h.0, rw (length-map xs f) h.1, get_or-map f xs h.0 x (f x) h.1 ∙ ap f h.2)

@@ -4,7 +4,7 @@ use Rattle.std.specs.List.{All, Contains}
 use Rattle.std.proofs.lemmas.Bool.{cases_eq, lt-ltb}
 use Rattle.std.proofs.lemmas.List.{get_or_read, take_all}
 use Rattle.std.proofs.lemmas.List.Elements.{All-more, Contains-get_or}
-use Rattle.gi_prop.specs.Assigned.{StandsAt, IsUnassigned}
+use Rattle.gi_prop.specs.TrailView.{StandsAt, IsUnassigned}
 use Rattle.gi_cdcl.specs.Marks.{marked, Marks, IsPlaceIn}
 use Rattle.gi_cdcl.proofs.Counts.{marked-set}
 

@@ -9,17 +9,18 @@ use Rattle.gi_lit.specs.Closure.{Forces, IsFalsified, IsSettled}
 use Rattle.gi_lit.specs.Closure.IsSettled.{has_true, has_two}
 use Rattle.gi_lit.specs.Problem.{without}
 use Rattle.gi_lit.proofs.Literals.{opposite-opposite, opposite-injective, var-opposite}
-use Rattle.gi_store.specs.Held.{Held, Holds}
-use Rattle.gi_prop.specs.Assigned.{Assigned, StandsAt, IsTrail}
+use Rattle.gi_store.specs.StoreView.{StoreView, Holds}
+use Rattle.gi_prop.specs.TrailView.{TrailView, StandsAt, IsTrail}
 use Rattle.gi_cdcl.specs.Uip.{resolvent, HasHigh, IsResolved}
 use Rattle.gi_cdcl.specs.Uip.IsResolved.{begins, passes, resolves}
 use Rattle.gi_cdcl.specs.Marks.{marked, IsMarked, Marks, IsCut}
 use Rattle.gi_cdcl.specs.Touched.{IsBlank}
-use Rattle.gi_cdcl.proofs.Lists.{place_in_take, Contains-take, front_contains, without_keeps, without_has}
+use Rattle.gi_prop.proofs.Fronts.{place_in_take, Contains-take, front_contains}
+use Rattle.gi_cdcl.proofs.Lists.{without_keeps, without_has}
 use Rattle.gi_cdcl.proofs.Marking.{IsSeen}
 use Rattle.gi_cdcl.proofs.Counts.{marked-le, marked-more, marked_blank, marked_gap, marked_some}
 
-pub record Resolving (h : Held) (t : Assigned) (conflict : List ℕ) (start at : ℕ) (seen : List Bool) (left : ℕ) : Type 0 where
+pub record Resolving (h : StoreView) (t : TrailView) (conflict : List ℕ) (start at : ℕ) (seen : List Bool) (left : ℕ) : Type 0 where
   pub len : length t.lits ≤ length seen
   pub at_le : at ≤ length t.lits
   pub low : start ≤ at
@@ -44,7 +45,7 @@ false_at lits end m c = let p = place_in_take end lits (opposite m) c in record 
 pub stands_at : (lits : List ℕ) (end m : ℕ) (f : FalseAt lits end m) → StandsAt lits (m / 2) f.place
 stands_at lits end m f = record { below = f.below; names = ap (λ n. n / 2) f.is ∙ var-opposite m }
 
-module _ (h : Held) (t : Assigned) (tr : IsTrail t) (conflict : List ℕ) (start : ℕ) where
+module _ (h : StoreView) (t : TrailView) (tr : IsTrail t) (conflict : List ℕ) (start : ℕ) where
   -- the opposite of a literal that stands at a place, where the clause's literal is false
   same_literal : (end k m : ℕ) → FalseAt t.lits end m → StandsAt t.lits (m / 2) k → m ≡ opposite (get_or t.lits k 0)
   same_literal end k m f s =
@@ -142,7 +143,7 @@ module _ (h : Held) (t : Assigned) (tr : IsTrail t) (conflict : List ℕ) (start
       }
 
       -- it begins no level: another literal of the last level is left
-      pub not_decision : left ≢ 1 → ((j : ℕ) → Contains t.marks j → j ≤ start) → ¬ Contains t.marks a
+      pub not_decision : left ≢ 1 → ((j : ℕ) → Contains t.level_starts j → j ≤ start) → ¬ Contains t.level_starts a
       not_decision ne low k =
           let le = low a k in
           let same : a ≡ start = omega arith in

@@ -6,13 +6,13 @@ use Rattle.gi_lit.specs.Problem.{IsWellFormed, full}
 use Rattle.gi_lit.specs.Guards.{IsGuardedLit}
 use Rattle.gi_lit.proofs.Resting.{rests, problem_or_guard}
 use Rattle.gi_lit.proofs.Vars.{var_facts}
-use Rattle.gi_store.specs.Held.{Held, Holds, IsWithin, problem_of, known_of}
+use Rattle.gi_store.specs.StoreView.{StoreView, Holds, IsWithin, problem_of, known_of}
 use Rattle.gi_store.specs.Whole.{IsWhole}
 use Rattle.gi_cdcl.specs.Sound.{stored, IsUsed}
 use Rattle.gi_cdcl.proofs.Uip.{holds_stored}
 use Rattle.gi_cdcl.proofs.Teaching.{stored_is}
 
-module _ (h : Held) (w : IsWellFormed (problem_of h)) where
+module _ (h : StoreView) (w : IsWellFormed (problem_of h)) where
   -- the full clauses are of problem variables and active guards
   pub full_used : All (All (IsUsed h)) (full (problem_of h))
   full_used = All-weaker (All (IsGuardedLit (problem_of h))) (All (IsUsed h)) (λ c a. All-weaker (IsGuardedLit (problem_of h)) (IsUsed h) (problem_or_guard (problem_of h)) c a) (full (problem_of h)) (rests (problem_of h) [] w).lits
@@ -24,15 +24,15 @@ module _ (h : Held) (w : IsWellFormed (problem_of h)) where
       (All-contains (λ g. 1 ≤ g) (h.freed ++ h.active) (l / 2) w.low there, All-contains (λ g. g ≤ h.vars) (h.freed ++ h.active) (l / 2) w.high there)
 
 -- and the learnt ones too, where these are
-pub all_used : (h : Held) → IsWellFormed (problem_of h) → All (All (IsUsed h)) (known_of h) → All (All (IsUsed h)) (stored h)
+pub all_used : (h : StoreView) → IsWellFormed (problem_of h) → All (All (IsUsed h)) (known_of h) → All (All (IsUsed h)) (stored h)
 all_used h w k = subst (All (All (IsUsed h))) (sym (stored_is h)) (All-append (All (IsUsed h)) (full (problem_of h)) (known_of h) (full_used h w) k)
 
 -- each stored clause is of variables of the store
-pub all_within : (h : Held) → IsWhole h → All (IsWithin h.vars) (stored h)
+pub all_within : (h : StoreView) → IsWhole h → All (IsWithin h.vars) (stored h)
 all_within h w = subst (All (IsWithin h.vars)) (sym (stored_is h)) (All-append (IsWithin h.vars) (full (problem_of h)) (known_of h) (λ k d lt i e il. used_within h w.well_formed _ (full_used h w.well_formed k d lt i e il)) w.known)
 
-pub all_within_more : (h : Held) → IsWhole h → (n : ℕ) → h.vars ≤ n → All (IsWithin n) (stored h)
+pub all_within_more : (h : StoreView) → IsWhole h → (n : ℕ) → h.vars ≤ n → All (IsWithin n) (stored h)
 all_within_more h w n le = λ k d lt i e il. let r = all_within h w k d lt i e il in (r.0, omega (arith, r.1, le))
 
-pub holds_within : (h : Held) → IsWhole h → (key : ℕ) (c : List ℕ) → Holds h key c → (n : ℕ) → h.vars ≤ n → IsWithin n c
+pub holds_within : (h : StoreView) → IsWhole h → (key : ℕ) (c : List ℕ) → Holds h key c → (n : ℕ) → h.vars ≤ n → IsWithin n c
 holds_within h w key c held n le = λ k d lt. let r = All-contains (IsWithin h.vars) (stored h) c (all_within h w) (holds_stored h key c held) k d lt in (r.0, omega (arith, r.1, le))

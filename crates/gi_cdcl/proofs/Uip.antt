@@ -9,19 +9,20 @@ use Rattle.gi_lit.specs.Closure.{IsFalsified, IsDerivation, Conflicts}
 use Rattle.gi_lit.specs.Problem.{without}
 use Rattle.gi_lit.proofs.Literals.{opposite-opposite}
 use Rattle.gi_lit.proofs.Closure.{IsDerivation-push, given_derives}
-use Rattle.gi_store.specs.Held.{Entry, Held, Holds, IsLive, entries}
-use Rattle.gi_prop.specs.Assigned.{Assigned}
+use Rattle.gi_store.specs.StoreView.{Entry, StoreView, Holds, IsLive, entries}
+use Rattle.gi_prop.specs.TrailView.{TrailView}
 use Rattle.gi_cdcl.specs.Sound.{stored}
 use Rattle.gi_cdcl.specs.Uip.{IsResolved, IsUip}
 use Rattle.gi_cdcl.specs.Uip.IsResolved.{begins, passes, resolves}
-use Rattle.gi_cdcl.proofs.Lists.{place_in_take, front_contains, Contains-map, without_keeps, without_has}
+use Rattle.gi_prop.proofs.Fronts.{place_in_take, front_contains}
+use Rattle.gi_cdcl.proofs.Lists.{Contains-map, without_keeps, without_has}
 
 -- what is held is stored
-pub holds_stored : (h : Held) (key : ℕ) (c : List ℕ) → Holds h key c → Contains (stored h) c
+pub holds_stored : (h : StoreView) (key : ℕ) (c : List ℕ) → Holds h key c → Contains (stored h) c
 holds_stored h key c k = Contains-map (λ (e : Entry). e.lits) (entries h) (record { key = key; lits = c }) k
 
 -- and its key is in use
-pub holds_live : (h : Held) (key : ℕ) (c : List ℕ) → Holds h key c → IsLive h key
+pub holds_live : (h : StoreView) (key : ℕ) (c : List ℕ) → Holds h key c → IsLive h key
 holds_live h key c k = Contains-map (λ (e : Entry). e.key) (entries h) (record { key = key; lits = c }) k
 
 -- one literal is false from the place `top` of the last level, and the others were false before that level
@@ -32,7 +33,7 @@ pub record IsOneHigh (lits : List ℕ) (start : ℕ) (clause : List ℕ) : Type 
   pub stands : Contains clause (opposite (get_or lits top 0))
   pub rest : (m : ℕ) → Contains clause m → (m ≡ opposite (get_or lits top 0)) ⊎ Contains (take start lits) (opposite m)
 
-module _ (h : Held) (t : Assigned) (conflict : List ℕ) (start : ℕ) (f : IsFalsified t.lits conflict) where
+module _ (h : StoreView) (t : TrailView) (conflict : List ℕ) (start : ℕ) (f : IsFalsified t.lits conflict) where
   -- each literal is false before the place
   pub resolved_false : (k : ℕ) (c : List ℕ) → IsResolved h t conflict start k c → (m : ℕ) → Contains c m → Contains (take k t.lits) (opposite m)
   resolved_false k c begins m inside = subst (λ xs. Contains xs (opposite m)) (sym (take_all (length t.lits) t.lits (omega arith))) (All-contains (λ m. Contains t.lits (opposite m)) conflict m f inside)

@@ -10,8 +10,8 @@ use Rattle.gi_lit.specs.Truth.{true_in, clause_true, Satisfies, MakesTrue}
 use Rattle.gi_lit.specs.Closure.{IsSettled, IsClosed, IsConsistent}
 use Rattle.gi_lit.specs.Closure.IsSettled.{has_true, has_two}
 use Rattle.gi_lit.proofs.Literals.{opposite-opposite, opposite_from_var}
-use Rattle.gi_store.specs.Held.{Held, IsWithin}
-use Rattle.gi_prop.specs.Assigned.{HasValue}
+use Rattle.gi_store.specs.StoreView.{StoreView, IsWithin}
+use Rattle.gi_prop.specs.TrailView.{HasValue}
 use Rattle.gi_cdcl.specs.Sound.{stored, IsUsed}
 use Rattle.gi_cdcl.specs.Values.{IsValueOf, IsAssignment, AllAssigned}
 
@@ -72,7 +72,7 @@ assigned lits n values c h = record { len = h.len; each = λ l big within k. go 
     go l big k false e false f is = value_of values l false false e f
 
 -- where all that is used has a value, each settled clause is true
-pub closed_true : (h : Held) (lits : List ℕ) (values : List Bool) → All (All (IsUsed h)) (stored h) → All (IsWithin h.vars) (stored h) → IsClosed (stored h) lits → AllAssigned h lits → IsAssignment h.vars lits values → Satisfies values (stored h)
+pub closed_true : (h : StoreView) (lits : List ℕ) (values : List Bool) → All (All (IsUsed h)) (stored h) → All (IsWithin h.vars) (stored h) → IsClosed (stored h) lits → AllAssigned h lits → IsAssignment h.vars lits values → Satisfies values (stored h)
 closed_true h lits values u w cl full a = record { each = λ k d lt. go (get_or (stored h) k d) (u k d lt) (w k d lt) (cl.each k d lt) }
   where
     by : (c : List ℕ) (l : ℕ) → Contains c l → true_in values l ≡ true → clause_true values c ≡ true

@@ -6,7 +6,7 @@ pub mod Ends
 pub mod Searching
 pub mod Laws
 pub mod Assumed
-pub mod Going
+pub mod Invariant
 pub mod Steps
 pub mod Finish
 pub mod Queue

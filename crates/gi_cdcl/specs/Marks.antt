@@ -2,8 +2,8 @@
 use Rattle.std.specs.Prelude.{zero, suc, ◌≡◌, ℕ, ◌+◌, ◌/◌, ◌<◌, ◌≤◌, Bool, true, false, if◌then◌else◌, Option, Some, None, List, [], ◌∷◌, length, slice_index, slice_index_or, All, Contains, ◌⊎◌, ◌↔◌}
 use Rattle.gi_lit.specs.Literals.{opposite}
 use Rattle.gi_lit.specs.Closure.{IsFalsified}
-use Rattle.gi_store.specs.Held.{Held, Holds}
-use Rattle.gi_prop.specs.Assigned.{Assigned, StandsAt}
+use Rattle.gi_store.specs.StoreView.{StoreView, Holds}
+use Rattle.gi_prop.specs.TrailView.{TrailView, StandsAt}
 use Rattle.gi_cdcl.specs.Uip.{IsResolved}
 
 -- how many of the first n places are marked
@@ -34,7 +34,7 @@ pub record Marks (lits clause : List ℕ) (start end : ℕ) (old new : List Bool
   pub count : marked end new + marked start old ≡ marked end old + marked start new + more
 
 -- the clause that was resolved has its literals at marked places, of which one is of the last level, at `top`
-pub record IsCut (h : Held) (t : Assigned) (conflict : List ℕ) (start : ℕ) (seen : List Bool) (top : ℕ) : Type 0 where
+pub record IsCut (h : StoreView) (t : TrailView) (conflict : List ℕ) (start : ℕ) (seen : List Bool) (top : ℕ) : Type 0 where
   pub len : length t.lits ≤ length seen
   pub low : start ≤ top
   pub high : top < length t.lits
@@ -81,7 +81,7 @@ pub record IsBuiltOf (lits touched : List ℕ) (top n : ℕ) (clause : List ℕ)
   pub last_is : IsLastIn touched n last
 
 -- the clause of the key is false
-pub record HasFalse (h : Held) (lits : List ℕ) (key : ℕ) : Type 0 where
+pub record HasFalse (h : StoreView) (lits : List ℕ) (key : ℕ) : Type 0 where
   pub clause : List ℕ
   pub held : Holds h key clause
   pub falsified : IsFalsified lits clause

@@ -1,9 +1,9 @@
 ghost use Rattle.std.specs.Prelude.{◌≡◌, ℕ, ◌-◌, ◌/◌, ◌<◌, ◌≤◌, List, length, All, Contains, IfOk, slice_index, slice_index_or, None};
 ghost use Rattle.gi_lit.specs.Literals.{opposite};
 ghost use Rattle.gi_lit.specs.Closure.{IsFalsified};
-ghost use Rattle.gi_store.specs.Held.{Holds, IsWithin, IsLive};
-ghost use Rattle.gi_prop.specs.Assigned.{IsLevelAt, IsTrail};
-ghost use Rattle.gi_cdcl.specs.Sound.{stored, IsSound, IsLeveled};
+ghost use Rattle.gi_store.specs.StoreView.{Holds, IsWithin, IsLive};
+ghost use Rattle.gi_prop.specs.TrailView.{IsLevelAt, IsTrail};
+ghost use Rattle.gi_cdcl.specs.Sound.{stored, IsTrailSound, IsLeveled};
 ghost use Rattle.gi_cdcl.specs.Uip.{IsUip, IsJump};
 ghost use Rattle.gi_cdcl.specs.Marks.{Marks, IsCut, IsLastOf, IsBuiltOf, HasFalse};
 ghost use Rattle.gi_cdcl.specs.Touched.{IsBlank};
@@ -34,7 +34,7 @@ fn lit_at(lits: &[Lit], place: usize) -> Lit
 /// The level of a place.
 fn level_at(trail: &Trail, place: usize) -> u32
     requires { place < length trail.now.lits }
-    ensures { IsLevelAt trail.now.marks place result }
+    ensures { IsLevelAt trail.now.level_starts place result }
 {
     let l = lit_at(trail.lits(), place);
     match trail.level_of(l.var()) {
@@ -74,14 +74,14 @@ pub(crate) fn mark_seen(
 /// Goes back over the trail from a clause that is false, to its first unique implication point.
 fn resolve(store: &Store, trail: &Trail, conflict: &[Lit], seen: &mut Seen) -> usize
     requires within { All (IsWithin trail.now.vars) (stored store.now) }
-    requires sound { IsSound store.now trail.now }
+    requires sound { IsTrailSound store.now trail.now }
     requires leveled { IsLeveled store.now trail.now }
-    requires deep { 0 < length trail.now.marks }
+    requires deep { 0 < length trail.now.level_starts }
     requires stands { Contains (stored store.now) conflict.now }
     requires falsified { IsFalsified trail.now.lits conflict.now }
     requires blank { IsBlank seen.old }
     requires room { length trail.now.lits ≤ length seen.old }
-    ensures { IsCut store.now trail.now conflict.now (slice_index trail.now.marks (length trail.now.marks - 1)) seen.new result }
+    ensures { IsCut store.now trail.now conflict.now (slice_index trail.now.level_starts (length trail.now.level_starts - 1)) seen.new result }
 {
     let start = trail.start_of(trail.level() - 1);
     let mut at = trail.lits().len();
@@ -160,13 +160,13 @@ pub(crate) fn analyze(
     conflict: Key,
 ) -> Result<Learnt, AllocError>
     requires within { All (IsWithin trail.now.vars) (stored store.now) }
-    requires sound { IsSound store.now trail.now }
+    requires sound { IsTrailSound store.now trail.now }
     requires leveled { IsLeveled store.now trail.now }
-    requires deep { 0 < length trail.now.marks }
+    requires deep { 0 < length trail.now.level_starts }
     requires conflict { HasFalse store.now trail.now.lits conflict }
     requires live { IsLive store.now conflict }
-    ensures uip { IfOk result (λ l. (c : List ℕ) → Holds store.now conflict c → IsUip store.now trail.now c (slice_index trail.now.marks (length trail.now.marks - 1)) l.clause) }
-    ensures jump { IfOk result (λ l. IsJump trail.now l.clause (slice_index trail.now.marks (length trail.now.marks - 1)) l.level) }
+    ensures uip { IfOk result (λ l. (c : List ℕ) → Holds store.now conflict c → IsUip store.now trail.now c (slice_index trail.now.level_starts (length trail.now.level_starts - 1)) l.clause) }
+    ensures jump { IfOk result (λ l. IsJump trail.now l.clause (slice_index trail.now.level_starts (length trail.now.level_starts - 1)) l.level) }
 {
     let start = trail.start_of(trail.level() - 1);
     seen.start_over(trail.vars())?;

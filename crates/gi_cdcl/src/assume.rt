@@ -2,10 +2,10 @@ ghost use Rattle.std.specs.Prelude.{◌≡◌, ℕ, ◌/◌, ◌<◌, ◌≤◌,
 ghost use Rattle.gi_lit.specs.Literals.{opposite};
 ghost use Rattle.gi_lit.specs.Lists.{IsSublist};
 ghost use Rattle.gi_lit.specs.Closure.{Conflicts};
-ghost use Rattle.gi_store.specs.Held.{IsWithin};
-ghost use Rattle.gi_prop.specs.Assigned.{IsTrail};
-ghost use Rattle.gi_cdcl.specs.Sound.{stored, IsSound};
-ghost use Rattle.gi_cdcl.specs.Assumed.{IsNext, IsPlaced, IsLed, LeadsFrom};
+ghost use Rattle.gi_store.specs.StoreView.{IsWithin};
+ghost use Rattle.gi_prop.specs.TrailView.{IsTrail};
+ghost use Rattle.gi_cdcl.specs.Sound.{stored, IsTrailSound};
+ghost use Rattle.gi_cdcl.specs.Assumed.{IsNext, IsPlaced, DecidesAssumptionsFirst, LeadsFrom};
 ghost use Rattle.gi_cdcl.specs.Touched.{IsBlank};
 
 use crate::analyze::{mark_seen, reason_at};
@@ -47,7 +47,7 @@ pub(crate) fn next_assumption(trail: &Trail, assumed: &[Lit], passed: &mut usize
 /// Marks what a literal that is false goes back to.
 fn trace(store: &Store, trail: &Trail, failed: Lit, seen: &mut Seen)
     requires within { All (IsWithin trail.now.vars) (stored store.now) }
-    requires sound { IsSound store.now trail.now }
+    requires sound { IsTrailSound store.now trail.now }
     requires var { failed / 2 ≤ trail.now.vars }
     requires failed { Contains trail.now.lits (opposite failed) }
     requires blank { IsBlank seen.old }
@@ -121,8 +121,8 @@ pub(crate) fn analyze_final(
     failed: Lit,
 ) -> Result<Lits, AllocError>
     requires within { All (IsWithin trail.now.vars) (stored store.now) }
-    requires sound { IsSound store.now trail.now }
-    requires led { IsLed assumed.now trail.now }
+    requires sound { IsTrailSound store.now trail.now }
+    requires led { DecidesAssumptionsFirst assumed.now trail.now }
     requires vars { IsWithin trail.now.vars assumed.now }
     requires assumed { Contains assumed.now failed }
     requires failed { Contains trail.now.lits (opposite failed) }

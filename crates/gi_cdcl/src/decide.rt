@@ -1,7 +1,7 @@
-ghost use Rattle.std.specs.Prelude.{◌≡◌, ℕ, ◌+◌, ◌*◌, ◌/◌, ◌<◌, ◌≤◌, ◌⊎◌, length, Contains, IfOk, IfSome, IfNone, OnOk, None, slice_index};
+ghost use Rattle.std.specs.Prelude.{◌≡◌, ℕ, ◌+◌, ◌*◌, ◌/◌, ◌<◌, ◌≤◌, ◌⊎◌, length, Contains, IfOk, IfSome, IfNone, None, slice_index};
 ghost use Rattle.gi_lit.specs.Literals.{max_var, opposite};
-ghost use Rattle.gi_store.specs.Held.{Held};
-ghost use Rattle.gi_prop.specs.Assigned.{HasValue, IsTrail, no_lits, with_lit, with_level, cancelled};
+ghost use Rattle.gi_store.specs.StoreView.{StoreView};
+ghost use Rattle.gi_prop.specs.TrailView.{HasValue, IsTrail, no_lits, cancelled};
 ghost use Rattle.gi_prop.specs.Attached.{Attached, Goes};
 ghost use Rattle.gi_cdcl.specs.Sound.{IsUsed};
 ghost use Rattle.gi_cdcl.specs.Values.{AllAssigned, IsPassed, IsValueOf, IsAssignment};
@@ -104,22 +104,6 @@ fn least_free(store: &Store, trail: &Trail, order: &Order, passed: &mut u32) -> 
     None
 }
 
-/// Begins a level with a literal.
-pub(crate) fn decide(trail: &mut Trail, l: Lit) -> Result<(), AllocError>
-    requires within { l / 2 ≤ trail.old.vars }
-    requires free { HasValue trail.old.lits l None }
-    ensures ok { OnOk result (trail.new ≡ with_lit l None (with_level trail.old)) }
-    ensures room { OnOk result (length trail.old.lits < trail.old.vars) }
-    ensures goes { (p : Attached) (s : Held) → Goes p s trail.old → Goes p s trail.new }
-{
-    if trail.level() == u32::MAX {
-        return Err(AllocError);
-    }
-    trail.push_level()?;
-    trail.assign(l, None);
-    Ok(())
-}
-
 /// Whether the variable at a place is true.
 fn is_true(trail: &Trail, place: u32) -> bool
     requires within { place < trail.now.vars }
@@ -151,11 +135,11 @@ pub(crate) fn assignment(alloc: Global, trail: &Trail, n: u32) -> Result<Assign,
 /// Goes back to the root level, and gives the variables back to the order whose literals stood above it.
 pub(crate) fn back_to_root(order: &mut Order, trail: &mut Trail)
     ensures after { trail.new ≡ cancelled 0 trail.old }
-    ensures goes { (p : Attached) (s : Held) → Goes p s trail.old → Goes p s trail.new }
+    ensures goes { (p : Attached) (s : StoreView) → Goes p s trail.old → Goes p s trail.new }
 {
     if trail.level() > 0 {
         let start = trail.start_of(0);
-        give_back(order, trail, start);
+        unassign(order, trail, start);
     }
     trail.cancel_to(0);
 }
@@ -163,14 +147,14 @@ pub(crate) fn back_to_root(order: &mut Order, trail: &mut Trail)
 /// Forgets what is true, and gives all variables back to the order.
 pub(crate) fn forget(order: &mut Order, trail: &mut Trail)
     ensures after { trail.new ≡ no_lits trail.old.vars }
-    ensures goes { (p : Attached) (s : Held) → Goes p s trail.old → Goes p s trail.new }
+    ensures goes { (p : Attached) (s : StoreView) → Goes p s trail.old → Goes p s trail.new }
 {
-    give_back(order, trail, 0);
+    unassign(order, trail, 0);
     trail.clear();
 }
 
 /// Gives the variables back to the order whose literals stand from a place on, and a number that none of these variables is below.
-pub(crate) fn give_back(order: &mut Order, trail: &Trail, start: usize) -> u32
+pub(crate) fn unassign(order: &mut Order, trail: &Trail, start: usize) -> u32
     ensures { (k : ℕ) → start ≤ k → k < length trail.now.lits → result ≤ slice_index trail.now.lits k / 2 }
 {
     let mut least = u32::MAX;

@@ -1,6 +1,6 @@
 ghost use Rattle.std.specs.Prelude.{◌<◌, [], length, All, Contains, IsTrue, IsFalse};
 ghost use Rattle.gi_lit.specs.Problem.{full};
-ghost use Rattle.gi_store.specs.Held.{problem_of, known_of};
+ghost use Rattle.gi_store.specs.StoreView.{problem_of, known_of};
 ghost use Rattle.gi_cdcl.specs.Sound.{stored};
 
 use gi_store::Store;

@@ -16,18 +16,17 @@ mod assume;
 mod brake;
 mod decide;
 mod empty;
-mod engine;
 pub mod laws;
 mod learn;
 mod no_brake;
 mod order;
 mod run;
 mod search;
+mod search_state;
 mod seen;
 mod slice;
+mod stamp;
 mod step;
-#[cfg(test)]
-mod tests;
 mod varlist;
 
 pub use brake::Brake;

@@ -1,3 +1,4 @@
+use crate::stamp::LAST_TIME;
 use crate::varlist::VarList;
 use gi_lit::{Lit, Var};
 use std::alloc::{AllocError, Global};
@@ -5,23 +6,22 @@ use std::alloc::{AllocError, Global};
 /// After so many learnt clauses their variables move to the front.
 const BATCH: u32 = 32;
 
-/// A variable of the batch's clauses: in how many of them it stands, its stamp, and its place among all variables.
+/// A variable of the batch's clauses: in how many of them it stands, when it moved last, and its place among all variables.
 #[derive(Clone, Copy, PartialEq, Eq, PartialOrd, Ord)]
 struct Bumped {
     count: u32,
-    stamp: u32,
+    time: u32,
     at: u32,
 }
 
 /// The order in which variables are decided, by moving to the front: all variables stand in one list, and the first that has no value is decided, with
-/// the value that it had last (phase saving). After every 32 learnt clauses their variables move to the front. A variable has the stamp of its last
-/// move, so that stamps fall along the list, and a cursor tells before which place all variables have values. No contract speaks of the choice: a
+/// the value that it had last (phase saving). After every 32 learnt clauses their variables move to the front. A variable has the time of its last
+/// move, so that times fall along the list, and a cursor tells before which place all variables have values. No contract speaks of the choice: a
 /// variable that was missed is found by going through all variables.
 #[derive(Drop)]
 pub(crate) struct Order {
     list: VarList,
-    phases: Vec<bool>,
-    /// The last stamp.
+    /// The time of the last move.
     clock: u32,
     /// Where to look for the next decision, by place; None behind the last variable.
     cursor: Option<u32>,
@@ -38,7 +38,6 @@ impl Order {
     pub(crate) fn new(alloc: Global) -> Order {
         Order {
             list: VarList::new(alloc),
-            phases: Vec::new(alloc),
             clock: 0,
             cursor: None,
             met: Vec::new(alloc),
@@ -49,27 +48,23 @@ impl Order {
 
     /// Makes the count of variables at least n. The new ones stand in front, the least first, with false as their last value.
     pub(crate) fn grow(&mut self, n: u32) -> Result<(), AllocError> {
-        let more = (n as usize).saturating_sub(self.phases.len());
-        self.phases.reserve(more)?;
+        let old = self.list.len();
         self.list.grow(n)?;
-        for _i in 0..more {
-            self.phases.push(false)?;
-        }
-        if more > 0 {
-            self.restamp();
+        if n > old {
+            self.renumber();
         }
         Ok(())
     }
 
-    /// Numbers the stamps anew, so that they fall along the list.
-    fn restamp(&mut self) {
-        let mut stamp = self.list.len();
-        self.clock = stamp;
+    /// Numbers the times anew, so that they fall along the list.
+    fn renumber(&mut self) {
+        let mut time = self.list.len();
+        self.clock = time;
         let mut at = self.list.first();
         for _i in 0..self.list.len() {
             if let Some(v) = at {
-                self.list.set_stamp(v, stamp);
-                stamp = stamp.saturating_sub(1);
+                self.list.set_time(v, time);
+                time = time.saturating_sub(1);
                 at = self.list.next(v);
             }
         }
@@ -101,16 +96,14 @@ impl Order {
 
     /// The last value of a variable; false of one that never had a value.
     pub(crate) fn phase(&self, v: Var) -> bool {
-        match self.phases.get((v.index() - 1) as usize) {
-            Some(phase) => *phase,
-            None => false,
-        }
+        let at = v.index() - 1;
+        at < self.list.len() && self.list.phase(at)
     }
 
-    /// The stamp of the variable at a place; 0 where there is none.
-    fn stamp(&self, at: u32) -> u32 {
+    /// When the variable at a place moved last; 0 where there is none.
+    fn time(&self, at: u32) -> u32 {
         if at < self.list.len() {
-            self.list.stamp(at)
+            self.list.time(at)
         } else {
             0
         }
@@ -119,11 +112,12 @@ impl Order {
     /// A literal loses its truth: its value is kept, and the cursor goes back to its variable if that stands before it.
     pub(crate) fn unassign(&mut self, l: Lit) {
         let at = l.var().index() - 1;
-        if let Some(phase) = self.phases.get_mut(at as usize) {
-            *phase = !l.is_negative();
+        if at >= self.list.len() {
+            return;
         }
+        self.list.set_phase(at, !l.is_negative());
         let is_before = match self.cursor {
-            Some(cursor) => self.stamp(at) > self.stamp(cursor),
+            Some(cursor) => self.time(at) > self.time(cursor),
             None => true,
         };
         if is_before {
@@ -147,7 +141,7 @@ impl Order {
         Ok(())
     }
 
-    /// Counts how often each variable of the batch's clauses was met, and sorts them by counts and stamps.
+    /// Counts how often each variable of the batch's clauses was met, and sorts them by counts and times.
     fn rank_met(&mut self) -> Result<(), AllocError> {
         self.met.sort_unstable();
         let mut count: u32 = 0;
@@ -156,8 +150,8 @@ impl Order {
                 let at = *at;
                 count = count.saturating_add(1);
                 if self.is_last_of(at, i) {
-                    let stamp = self.stamp(at);
-                    self.bumped.push(Bumped { count, stamp, at })?;
+                    let time = self.time(at);
+                    self.bumped.push(Bumped { count, time, at })?;
                     count = 0;
                 }
             }
@@ -186,17 +180,17 @@ impl Order {
         self.bumped.clear();
     }
 
-    /// Moves the variable at a place to the front, and gives it the greatest stamp.
+    /// Moves the variable at a place to the front, with the latest time.
     fn move_to_front(&mut self, at: u32) {
         if at >= self.list.len() {
             return;
         }
         self.list.move_to_front(at);
-        if self.clock == u32::MAX {
-            self.restamp();
+        if self.clock >= LAST_TIME {
+            self.renumber();
             return;
         }
         self.clock += 1;
-        self.list.set_stamp(at, self.clock);
+        self.list.set_time(at, self.clock);
     }
 }

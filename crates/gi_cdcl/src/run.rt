@@ -1,15 +1,14 @@
-ghost use Rattle.std.specs.Prelude.{◌≡◌, ◌≢◌, ◌+◌, ◌<◌, ◌≤◌, ℕ, [], length, Contains, IfOk, OnOk, IsTrue, ◌↔◌};
-ghost use Rattle.gi_store.specs.Held.{IsWithin};
+ghost use Rattle.std.specs.Prelude.{◌≡◌, ◌+◌, ◌<◌, ◌≤◌, ℕ, [], IfOk, IsTrue, ◌↔◌};
+ghost use Rattle.gi_store.specs.StoreView.{IsWithin};
 ghost use Rattle.gi_cdcl.specs.Searching.{AreKnown};
-ghost use Rattle.gi_cdcl.specs.Going.{AreAttached, IsGoing, HasLearnt};
-ghost use Rattle.gi_cdcl.specs.Finish.{Finishes};
-ghost use Rattle.gi_cdcl.specs.declared.slice.Slice.TheVariants.{Braked, NoMemory};
-ghost use Rattle.gi_cdcl.specs.Sound.{stored, IsSound};
+ghost use Rattle.gi_cdcl.specs.Invariant.{AreAttached, SearchInvariant};
+ghost use Rattle.gi_cdcl.specs.Finish.{HasRun, HasEnded};
+ghost use Rattle.gi_cdcl.specs.Sound.{IsTrailSound};
 
 use crate::brake::Brake;
-use crate::engine::{Bounds, Engine, Progress};
+use crate::search_state::{Bounds, Progress, SearchState};
 use crate::slice::Slice;
-use crate::step::{Step, take_step};
+use crate::step::{StepResult, take_step};
 use gi_lit::{Lit, Lits};
 use gi_store::Store;
 use std::alloc::AllocError;
@@ -30,7 +29,7 @@ fn ask<B: Brake>(brake: &mut B, mark: &mut u64, serial: u64) -> bool
 
 /// Steps until the slice ends.
 fn run<B: Brake>(
-    engine: &mut Engine,
+    state: &mut SearchState,
     store: &mut Store,
     assumed: &[Lit],
     bounds: Bounds,
@@ -38,24 +37,18 @@ fn run<B: Brake>(
     progress: &mut Progress,
 ) -> Result<Slice, AllocError>
     requires limit { (1 ≤ bounds.limit) × (bounds.limit ≤ 1024) }
-    requires going { IsGoing engine.old.prop store.old engine.old.trail assumed.now engine.old.vars_passed engine.old.assumed_passed }
+    requires going { SearchInvariant state.old.prop store.old state.old.trail assumed.now state.old.vars_passed state.old.assumed_passed }
     requires news { progress.old.news.items ≡ [] }
     requires mark { (progress.old.mark ≡ B.top brake.old) × (progress.old.mark < bounds.serial) }
     requires asks { B.asks brake.old ≡ 1 }
-    ensures learnt { HasLearnt store.old store.new progress.new.news.items }
-    ensures few { length progress.new.news.items ≤ bounds.limit }
-    ensures mark { progress.new.mark ≡ B.top brake.new }
+    ensures ran { HasRun store.old store.new bounds.limit progress.new.news.items progress.new.mark (B.top brake.new) }
     ensures follows { B.follows brake.old brake.new }
-    ensures finishes { IfOk result (Finishes store.new assumed.now bounds.limit bounds.serial progress.new.mark progress.new.news.items) }
-    ensures asks { OnOk result (length progress.new.news.items < B.asks brake.new) }
-    ensures asks_root { IfOk result (λ end. end ≢ Braked → Contains (stored store.old) [] → length progress.new.news.items + 1 < B.asks brake.new) }
-    ensures attached { OnOk result (AreAttached engine.new.prop store.new engine.new.trail) }
-    ensures sound { OnOk result (IsSound store.new engine.new.trail) }
+    ensures ended { IfOk result (HasEnded state.new.prop store.old store.new state.new.trail assumed.now bounds.limit bounds.serial progress.new.mark (B.asks brake.new) progress.new.news.items) }
 {
     'steps: loop {
-        match take_step(engine, store, assumed, &mut progress.news)? {
-            Step::Decided => {}
-            Step::Learnt => {
+        match take_step(state, store, assumed, &mut progress.news)? {
+            StepResult::Decided => {}
+            StepResult::Learnt => {
                 if ask(brake, &mut progress.mark, bounds.serial) {
                     return Ok(Slice::Braked);
                 }
@@ -63,21 +56,21 @@ fn run<B: Brake>(
                     return Ok(Slice::Learned);
                 }
             }
-            Step::Refuted => {
+            StepResult::Refuted => {
                 if ask(brake, &mut progress.mark, bounds.serial) {
                     return Ok(Slice::Braked);
                 }
-                return Ok(Slice::Unsat(Lits::new(engine.alloc)));
+                return Ok(Slice::Unsat(Lits::new(state.alloc)));
             }
-            Step::Sat(values) => return Ok(Slice::Sat(values)),
-            Step::Failed(failing) => return Ok(Slice::Unsat(failing)),
+            StepResult::Sat(values) => return Ok(Slice::Sat(values)),
+            StepResult::Failed(failing) => return Ok(Slice::Unsat(failing)),
         }
     }
 }
 
-/// Makes room for the store's variables, and runs.
-fn begin<B: Brake>(
-    engine: &mut Engine,
+/// Asks the brake, and searches if it lets it: makes room for the store's variables, and runs.
+pub(crate) fn start<B: Brake>(
+    state: &mut SearchState,
     store: &mut Store,
     assumed: &[Lit],
     bounds: Bounds,
@@ -87,64 +80,24 @@ fn begin<B: Brake>(
     requires limit { (1 ≤ bounds.limit) × (bounds.limit ≤ 1024) }
     requires assumed { IsWithin store.old.vars assumed.now }
     requires known { AreKnown store.old }
-    requires attached { AreAttached engine.old.prop store.old engine.old.trail }
-    requires sound { IsSound store.old engine.old.trail }
-    requires root { engine.old.trail.marks ≡ [] }
-    requires news { progress.old.news.items ≡ [] }
-    requires mark { (progress.old.mark ≡ B.top brake.old) × (progress.old.mark < bounds.serial) }
-    requires asks { B.asks brake.old ≡ 1 }
-    ensures learnt { HasLearnt store.old store.new progress.new.news.items }
-    ensures few { length progress.new.news.items ≤ bounds.limit }
-    ensures mark { progress.new.mark ≡ B.top brake.new }
-    ensures follows { B.follows brake.old brake.new }
-    ensures finishes { IfOk result (Finishes store.new assumed.now bounds.limit bounds.serial progress.new.mark progress.new.news.items) }
-    ensures asks { OnOk result (length progress.new.news.items < B.asks brake.new) }
-    ensures asks_root { IfOk result (λ end. end ≢ Braked → Contains (stored store.old) [] → length progress.new.news.items + 1 < B.asks brake.new) }
-    ensures attached { OnOk result (AreAttached engine.new.prop store.new engine.new.trail) }
-    ensures sound { OnOk result (IsSound store.new engine.new.trail) }
-{
-    let vars = store.vars();
-    engine.trail.grow(vars)?;
-    engine.order.grow(vars)?;
-    engine.order.rewind();
-    engine.vars_passed = 0;
-    engine.assumed_passed = 0;
-    run(engine, store, assumed, bounds, brake, progress)
-}
-
-/// Asks the brake, and searches if it lets it.
-pub(crate) fn start<B: Brake>(
-    engine: &mut Engine,
-    store: &mut Store,
-    assumed: &[Lit],
-    bounds: Bounds,
-    brake: &mut B,
-    progress: &mut Progress,
-) -> Slice
-    requires limit { (1 ≤ bounds.limit) × (bounds.limit ≤ 1024) }
-    requires assumed { IsWithin store.old.vars assumed.now }
-    requires known { AreKnown store.old }
-    requires attached { AreAttached engine.old.prop store.old engine.old.trail }
-    requires sound { IsSound store.old engine.old.trail }
-    requires root { engine.old.trail.marks ≡ [] }
+    requires attached { AreAttached state.old.prop store.old state.old.trail }
+    requires sound { IsTrailSound store.old state.old.trail }
+    requires root { state.old.trail.level_starts ≡ [] }
     requires news { progress.old.news.items ≡ [] }
     requires mark { progress.old.mark ≡ B.top brake.old }
     requires asks { B.asks brake.old ≡ 0 }
-    ensures learnt { HasLearnt store.old store.new progress.new.news.items }
-    ensures few { length progress.new.news.items ≤ bounds.limit }
-    ensures mark { progress.new.mark ≡ B.top brake.new }
+    ensures ran { HasRun store.old store.new bounds.limit progress.new.news.items progress.new.mark (B.top brake.new) }
     ensures follows { B.follows brake.old brake.new }
-    ensures finishes { Finishes store.new assumed.now bounds.limit bounds.serial progress.new.mark progress.new.news.items result }
-    ensures asks { result ≢ NoMemory → length progress.new.news.items < B.asks brake.new }
-    ensures asks_root { result ≢ NoMemory → result ≢ Braked → Contains (stored store.old) [] → length progress.new.news.items + 1 < B.asks brake.new }
-    ensures attached { result ≢ NoMemory → AreAttached engine.new.prop store.new engine.new.trail }
-    ensures sound { result ≢ NoMemory → IsSound store.new engine.new.trail }
+    ensures ended { IfOk result (HasEnded state.new.prop store.old store.new state.new.trail assumed.now bounds.limit bounds.serial progress.new.mark (B.asks brake.new) progress.new.news.items) }
 {
     if ask(brake, &mut progress.mark, bounds.serial) {
-        return Slice::Braked;
+        return Ok(Slice::Braked);
     }
-    match begin(engine, store, assumed, bounds, brake, progress) {
-        Ok(end) => end,
-        Err(_) => Slice::NoMemory,
-    }
+    let vars = store.vars();
+    state.trail.grow(vars)?;
+    state.order.grow(vars)?;
+    state.order.rewind();
+    state.vars_passed = 0;
+    state.assumed_passed = 0;
+    run(state, store, assumed, bounds, brake, progress)
 }

@@ -1,18 +1,18 @@
 ghost use Rattle.std.specs.Prelude.{◌≡◌, ◌≢◌, ◌+◌, ◌<◌, ◌≤◌, ℕ, List, [], length, Contains, OnOk, OnErr};
-ghost use Rattle.gi_store.specs.Held.{Held, IsLive, IsWithin, Keeps};
+ghost use Rattle.gi_store.specs.StoreView.{StoreView, IsLive, IsWithin, Keeps};
 ghost use Rattle.gi_prop.specs.Attached.{IsAttached, Attaches, Detaches, HasSameKeys};
-ghost use Rattle.gi_cdcl.specs.Searching.{GoesWith, HasAll, AreKnown};
+ghost use Rattle.gi_cdcl.specs.Searching.{MatchesStore, HasAll, AreKnown};
 ghost use Rattle.gi_cdcl.specs.Ends.{Slices};
 ghost use Rattle.gi_cdcl.specs.declared.slice.Slice.TheVariants.{Braked, NoMemory};
 ghost use Rattle.gi_cdcl.specs.Sound.{stored};
 
 use crate::brake::Brake;
 use crate::decide::{back_to_root, forget};
-use crate::engine::{Bounds, Engine, Progress};
 use crate::order::Order;
 use crate::run::start;
+use crate::search_state::{Bounds, Progress, SearchState};
 use crate::seen::Seen;
-use crate::slice::Sliced;
+use crate::slice::{Slice, Sliced};
 use gi_lit::{Clauses, Lit};
 use gi_prop::{Prop, Trail};
 use gi_store::{Key, Store};
@@ -23,7 +23,7 @@ use std::marker::Model;
 /// level: what clauses force where nothing is decided.
 #[derive(Drop)]
 pub struct Search {
-    engine: Engine,
+    state: SearchState,
 }
 
 impl Model for Search {
@@ -32,18 +32,18 @@ impl Model for Search {
 
     ghost Value = { Searching };
 
-    ghost view = { λ s. record { attached = s.engine.prop; root = s.engine.trail } };
+    ghost view = { λ s. record { attached = s.state.prop; root = s.state.trail } };
 
-    ghost invariant = { λ s. s.engine.trail.marks ≡ [] };
+    ghost invariant = { λ s. s.state.trail.level_starts ≡ [] };
 }
 
 impl Search {
     /// A search with no key, which goes with every store.
     pub fn new(alloc: Global) -> Search
         ensures none { (k : ℕ) → ¬ IsAttached result.attached k }
-        ensures goes { (h : Held) → GoesWith result h }
+        ensures goes { (h : StoreView) → MatchesStore result h }
     {
-        let engine = Engine {
+        let state = SearchState {
             alloc,
             trail: Trail::new(alloc),
             prop: Prop::new(alloc),
@@ -52,31 +52,31 @@ impl Search {
             vars_passed: 0,
             assumed_passed: 0,
         };
-        Search { engine }
+        Search { state }
     }
 
     /// Attaches a key of the store. After an error the same keys are attached as before, and the search goes with the same stores.
     pub fn attach(&mut self, store: &Store, key: Key) -> Result<(), AllocError>
-        requires goes { GoesWith self.old store.now }
+        requires goes { MatchesStore self.old store.now }
         requires live { IsLive store.now key }
         requires free { ¬ IsAttached self.old.attached key }
         ensures ok { OnOk result (Attaches key self.old.attached self.new.attached) }
-        ensures goes { GoesWith self.new store.now }
+        ensures goes { MatchesStore self.new store.now }
         ensures err { OnErr result (HasSameKeys self.old.attached self.new.attached) }
-        ensures err_goes { OnErr result ((h : Held) → GoesWith self.old h → GoesWith self.new h) }
+        ensures err_goes { OnErr result ((h : StoreView) → MatchesStore self.old h → MatchesStore self.new h) }
     {
-        self.engine.trail.grow(store.vars())?;
-        self.engine.prop.attach(store, &self.engine.trail, key)
+        self.state.trail.grow(store.vars())?;
+        self.state.prop.attach(store, &self.state.trail, key)
     }
 
     /// Detaches a key. Takes no memory. Since its clause may have forced what is true at the root, the root is found anew by the next slice.
     pub fn detach(&mut self, key: Key)
         requires { IsAttached self.old.attached key }
         ensures detached { Detaches key self.old.attached self.new.attached }
-        ensures goes { (h : Held) → GoesWith self.old h → GoesWith self.new h }
+        ensures goes { (h : StoreView) → MatchesStore self.old h → MatchesStore self.new h }
     {
-        forget(&mut self.engine.order, &mut self.engine.trail);
-        self.engine.prop.detach(key);
+        forget(&mut self.state.order, &mut self.state.trail);
+        self.state.prop.detach(key);
     }
 
     /// Searches until so many clauses were learnt, the brake tells a mark that reaches the serial, or there is a verdict on the clauses in force
@@ -93,7 +93,7 @@ impl Search {
     ) -> Sliced
         requires limit { (1 ≤ limit) × (limit ≤ 1024) }
         requires assumed { IsWithin store.old.vars assumed.now }
-        requires goes { GoesWith self.old store.old }
+        requires goes { MatchesStore self.old store.old }
         requires all { HasAll self.old store.old }
         requires known { AreKnown store.old }
         requires new_brake { (B.top brake.old ≡ 0) × (B.asks brake.old ≡ 0) }
@@ -103,23 +103,24 @@ impl Search {
         ensures follows { B.follows brake.old brake.new }
         ensures asks { result.end ≢ NoMemory → length result.news < B.asks brake.new }
         ensures asks_root { result.end ≢ NoMemory → result.end ≢ Braked → Contains (stored store.old) [] → length result.news + 1 < B.asks brake.new }
-        ensures goes { result.end ≢ NoMemory → GoesWith self.new store.new × HasAll self.new store.new }
+        ensures goes { result.end ≢ NoMemory → MatchesStore self.new store.new × HasAll self.new store.new }
     {
         let bounds = Bounds { limit, serial };
         let mut progress = Progress {
-            news: Vec::new(self.engine.alloc),
+            news: Vec::new(self.state.alloc),
             mark: 0,
         };
-        let end = start(
-            &mut self.engine,
+        let ended = start(
+            &mut self.state,
             store,
             assumed,
             bounds,
             brake,
             &mut progress,
         );
-        let _level = self.engine.trail.level();
-        back_to_root(&mut self.engine.order, &mut self.engine.trail);
+        let end = ended.unwrap_or(Slice::NoMemory);
+        let _level = self.state.trail.level();
+        back_to_root(&mut self.state.order, &mut self.state.trail);
         Sliced {
             news: Clauses::from_vec(progress.news),
             mark: progress.mark,

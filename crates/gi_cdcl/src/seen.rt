@@ -4,9 +4,6 @@ ghost use Rattle.gi_cdcl.specs.Touched.{IsTouched, IsBlank, AreMarked};
 use std::alloc::{AllocError, Global};
 use std::marker::Model;
 
-/// The most places: the number of each fits a word of 32 bits.
-const MAX_PLACES: usize = 4_294_967_295;
-
 /// Marks on the places of a trail, used by one conflict after the other. Contracts see a flag for each place.
 #[derive(Drop)]
 pub(crate) struct Seen {
@@ -36,15 +33,12 @@ impl Seen {
         }
     }
 
-    /// Takes all marks away, and makes room for n places. Takes time in the number of marks, and memory only for more places than ever before. More
-    /// than 2^32 - 1 places count as want of memory.
+    /// Takes all marks away, and makes room for n places. Takes time in the number of marks, and memory only for more places than ever before.
     pub(crate) fn start_over(&mut self, n: usize) -> Result<(), AllocError>
-        ensures blank { OnOk result (IsBlank self.new) }
+        requires { n ≤ 4294967295 }
+        ensures blank { IsBlank self.new }
         ensures room { OnOk result (n ≤ length self.new) }
     {
-        if n > MAX_PLACES {
-            return Err(AllocError);
-        }
         unmark(&mut self.flags, self.touched.as_slice());
         self.touched.clear();
         let more = n.saturating_sub(self.flags.len());

@@ -2,11 +2,12 @@ ghost use Rattle.std.specs.Prelude.{◌≡◌, ℕ, ◌<◌, ◌≤◌, [], leng
 ghost use Rattle.gi_chains.specs.Lists.{Lists, items_at, IsApart};
 ghost use Rattle.gi_cdcl.specs.Queue.{IsLinkedFrom, IsQueue};
 
+use crate::stamp::{LAST_TIME, Stamp};
 use gi_chains::Chains;
 use std::alloc::{AllocError, Global};
 use std::marker::Model;
 
-/// All variables in one list, each once, with a stamp beside each. A variable goes by its place, from 0; contracts see how many there are.
+/// All variables in one list, each once, with the time of its last move and its last value beside each. A variable goes by its place, from 0; contracts see how many there are.
 #[derive(Drop)]
 pub(crate) struct VarList {
     chains: Chains,
@@ -80,19 +81,37 @@ impl VarList {
         }
     }
 
-    /// The stamp of a variable, 0 at first.
-    pub(crate) fn stamp(&self, v: u32) -> u32
+    /// When a variable moved last, 0 at first.
+    pub(crate) fn time(&self, v: u32) -> u32
         requires { v < self.now }
+        ensures { result ≤ 2147483647 }
     {
-        self.chains.word(u64::from(v))
+        Stamp::in_word(self.chains.word(u64::from(v))).time()
     }
 
-    /// Gives a variable another stamp.
-    pub(crate) fn set_stamp(&mut self, v: u32, stamp: u32)
+    /// The value that a variable had last, false at first.
+    pub(crate) fn phase(&self, v: u32) -> bool
+        requires { v < self.now }
+    {
+        Stamp::in_word(self.chains.word(u64::from(v))).phase()
+    }
+
+    /// A variable moved at that time.
+    pub(crate) fn set_time(&mut self, v: u32, time: u32)
         requires { v < self.old }
         ensures { self.new ≡ self.old }
     {
-        self.chains.set_word(u64::from(v), stamp);
+        let stamp = Stamp::of(time.min(LAST_TIME), self.phase(v));
+        self.chains.set_word(u64::from(v), stamp.word());
+    }
+
+    /// A variable had that value last.
+    pub(crate) fn set_phase(&mut self, v: u32, phase: bool)
+        requires { v < self.old }
+        ensures { self.new ≡ self.old }
+    {
+        let stamp = Stamp::of(self.time(v), phase);
+        self.chains.set_word(u64::from(v), stamp.word());
     }
 
     /// Makes a variable the first.

@@ -1,6 +1,6 @@
 use Rattle.std.proofs.Common.{◌≡◌, ◌<◌, ◌/◌, ◌+◌, arith, length, ℕ, ap, subst, sym, ◌∙◌, List, Bool, true, false, get_or, nat_lt}
 use Rattle.std.proofs.lemmas.Bool.{lt-ltb, le-ltb}
-use Rattle.gi_prop.specs.Assigned.{StandsAt}
+use Rattle.gi_prop.specs.TrailView.{StandsAt}
 use Rattle.gi_cdcl.proofs.Marking.{MarksSoFar, Marks-none, Marks-done, Marks-skip, Marks-set, unseen}
 use Rattle.gi_cdcl.proofs.analyze.mark_seen.Goals as goal
 use Rattle.gi_cdcl.proofs.analyze.mark_seen.Goals.{in-Some+then-at-end+then-not-has+then-at-start, in-Some+then-at-end+then-not-has+else-at-start, in-Some+else-at-end, else-at-end-via-then-at-end+else-not-has, else-at-end-via-else-at-end, in_default}

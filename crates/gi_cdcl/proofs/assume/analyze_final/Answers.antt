@@ -12,3 +12,6 @@ returns-clause-conflicts c =
       | inl lt ↦ absurd (omega arith)
       | inr mk ↦ c.in_ok-found.ensures.marked k kl q (decisions_assumed c.args.trail.now c.args.assumed.now c.args.failed c.lits.ensures.trail.consistent c.requires.led c.requires.assumed c.requires.failed k mk)
     ])
+
+pub start_over-requires : goal.start_over-requires
+start_over-requires c = let t = c.lits.ensures.trail in let f = t.few in let r = t.room in rw c.lits.ensures.value (omega (arith, f, r))

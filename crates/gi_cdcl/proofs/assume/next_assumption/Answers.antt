@@ -2,7 +2,7 @@ use Rattle.std.proofs.Common.{subst, true, Some}
 use Rattle.std.specs.List.{All, Contains}
 use Rattle.std.proofs.lemmas.List.{get_or_read, take_all}
 use Rattle.std.proofs.lemmas.List.Elements.{All-more}
-use Rattle.gi_prop.specs.Assigned.{HasValue}
+use Rattle.gi_prop.specs.TrailView.{HasValue}
 use Rattle.gi_cdcl.proofs.assume.next_assumption.Goals as goal
 
 pub loop-passed-preserved : goal.loop-passed-preserved

@@ -1,8 +1,8 @@
 use Rattle.std.proofs.Common.{◌≡◌, ◌<◌, ◌-◌, ◌+◌, ◌/◌, arith, ℕ, ap, subst, sym, ◌∙◌, List, Bool, Some, None, length}
 use Rattle.std.proofs.lemmas.List.{get_or_default}
 use Rattle.std.proofs.lemmas.List.Elements.{All-contains}
-use Rattle.gi_store.specs.Held.{IsWithin}
-use Rattle.gi_prop.specs.Assigned.{IsTrail, StandsAt}
+use Rattle.gi_store.specs.StoreView.{IsWithin}
+use Rattle.gi_prop.specs.TrailView.{IsTrail, StandsAt}
 use Rattle.gi_lit.proofs.Literals.{var-opposite}
 use Rattle.gi_cdcl.specs.Sound.{stored, IsSupported}
 use Rattle.gi_cdcl.specs.Assumed.{LeadsFrom}

@@ -1,5 +1,5 @@
 use Rattle.std.proofs.Common.{◌≡◌, ◌+◌, ◌*◌, ℕ, ap, subst, ◌∙◌, Some}
-use Rattle.gi_prop.specs.Assigned.{HasValue}
+use Rattle.gi_prop.specs.TrailView.{HasValue}
 use Rattle.gi_cdcl.proofs.Values.{value_from}
 use Rattle.gi_cdcl.proofs.decide.is_true.Goals as goal
 

@@ -2,7 +2,7 @@ use Rattle.std.proofs.Common.{◌<◌, ℕ, List, [], length, sym, ◌∙◌, su
 use Rattle.std.specs.List.{All}
 use Rattle.std.proofs.lemmas.List.{take_all}
 use Rattle.std.proofs.lemmas.List.Elements.{All-more}
-use Rattle.gi_store.specs.Held.{known_of}
+use Rattle.gi_store.specs.StoreView.{known_of}
 use Rattle.gi_cdcl.proofs.Empties.{at_some, not_empty}
 use Rattle.gi_cdcl.proofs.empty.has_empty_in_known.Goals as goal
 

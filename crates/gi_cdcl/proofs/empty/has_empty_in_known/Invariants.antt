@@ -1,6 +1,6 @@
 use Rattle.std.proofs.Common.{◌<◌, length, take}
 use Rattle.std.specs.List.{All}
-use Rattle.gi_store.specs.Held.{known_of}
+use Rattle.gi_store.specs.StoreView.{known_of}
 use Rattle.gi_cdcl.proofs.empty.has_empty_in_known.Given as goal
 
 abbrev pub invariant-loop-i : goal.invariant-loop-i

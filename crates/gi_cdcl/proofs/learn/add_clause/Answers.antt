@@ -1,6 +1,6 @@
 use Rattle.std.proofs.Common.{◌≡◌, ℕ, List, [], ◌∷◌, ◌++◌, ap, ◌∙◌, arith}
 use Rattle.std.proofs.lemmas.Result.{on_ok_weaker}
-use Rattle.gi_store.specs.Held.{Held, with_learnt}
+use Rattle.gi_store.specs.StoreView.{StoreView, with_learnt}
 use Rattle.gi_cdcl.proofs.Stores.{holds_within}
 use Rattle.gi_cdcl.proofs.Going.{goes_learnt, learnt_more, tied_learnt}
 use Rattle.gi_cdcl.proofs.learn.add_clause.Goals as goal
@@ -13,7 +13,7 @@ attach-requires-clause-goes c =
 pub attach-requires-clause-within : goal.attach-requires-clause-within
 attach-requires-clause-within c clause held =
     let e : c.learn.new.self ≡ with_learnt c.in_ok-key.key c.args.clause c.args.store.now = c.in_ok-key.ensures.ok ∙ ap (λ (xs : List ℕ). with_learnt c.in_ok-key.key xs c.args.store.now) c.as_slice.ensures in
-    let v : c.learn.new.self.vars ≡ c.args.store.now.vars = ap (λ (s : Held). s.vars) e in
+    let v : c.learn.new.self.vars ≡ c.args.store.now.vars = ap (λ (s : StoreView). s.vars) e in
     holds_within c.learn.new.self c.vars-vars.ensures.whole c.in_ok-key.key clause held c.args.trail.now.vars (omega (arith, v, c.requires.tied.room))
 
 pub returns-clause-learnt : goal.returns-clause-learnt

@@ -1,10 +1,10 @@
 use Rattle.std.proofs.Common.{◌≡◌, ◌<◌, ◌+◌, ◌-◌, ◌*◌, length}
-use Rattle.gi_cdcl.specs.Going.{IsGoing, HasLearnt}
+use Rattle.gi_cdcl.specs.Invariant.{SearchInvariant, HasLearnt}
 use Rattle.gi_cdcl.proofs.run.run.Given as goal
 
 abbrev pub invariant-steps : goal.invariant-steps
 invariant-steps g l = record {
-  going : IsGoing l.engine.prop l.store l.engine.trail l.assumed l.engine.vars_passed l.engine.assumed_passed;
+  going : SearchInvariant l.state.prop l.store l.state.trail l.assumed l.state.vars_passed l.state.assumed_passed;
   learnt : HasLearnt l.fn.store l.store l.progress.news.items;
   few : length l.progress.news.items < l.bounds.limit;
   top : l.progress.mark ≡ g.B.Brake.top l.brake;
@@ -14,4 +14,4 @@ invariant-steps g l = record {
 }
 
 abbrev pub decreases-steps : goal.decreases-steps
-decreases-steps g l = (l.bounds.limit - length l.progress.news.items) * (l.engine.trail.vars + 1) + (l.engine.trail.vars - length l.engine.trail.lits)
+decreases-steps g l = (l.bounds.limit - length l.progress.news.items) * (l.state.trail.vars + 1) + (l.state.trail.vars - length l.state.trail.lits)

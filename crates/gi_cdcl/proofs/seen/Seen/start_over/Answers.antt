@@ -21,5 +21,5 @@ invariant_of-self-2 c =
     let few : length c.add_flags.new.flags.items ≤ 4294967295 =
     let f = c.self.invariant.few in
     let same = ap (λ (xs : List Bool). length xs) c.reserve-2.ensures.items in
-    omega (arith, f, c.unmark.ensures.len, same, c.add_flags.ensures.len, c.saturating_sub-more.ensures, c.len.ensures, c.if-n-gt-MAX_PLACES.false) in
+    omega (arith, f, c.unmark.ensures.len, same, c.add_flags.ensures.len, c.saturating_sub-more.ensures, c.len.ensures, c.requires) in
     rw (c.reserve.ensures.items, c.clear.ensures.items) (touched_none c.add_flags.new.flags.items (vec_capacity c.reserve.new.self) c.add_flags.ensures.blank le few)

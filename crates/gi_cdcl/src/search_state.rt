@@ -6,7 +6,7 @@ use std::alloc::Global;
 
 /// The parts of a search.
 #[derive(Drop)]
-pub(crate) struct Engine {
+pub(crate) struct SearchState {
     pub alloc: Global,
     pub trail: Trail,
     pub prop: Prop,
