@@ -11,11 +11,11 @@ use Rattle.gi_lit.specs.Problem.{full}
 use Rattle.gi_lit.specs.Guards.{IsGuardedLit}
 use Rattle.gi_lit.proofs.Resting.{rests}
 use Rattle.gi_lit.proofs.Distinct.{Contains-head, IsDistinct-apart}
-use Rattle.gi_store.specs.Held.{Entry, Held, Holds, IsLive, IsWithin, problem_of, known_of, entries, keys_of, at_place}
+use Rattle.gi_store.specs.StoreView.{Entry, StoreView, Holds, IsLive, IsWithin, problem_of, known_of, entries, keys_of, at_place}
 use Rattle.gi_store.specs.Whole.{IsWhole}
 use Rattle.gi_store.proofs.Removing.{one_clause}
 use Rattle.gi_store.proofs.Editing.{entries_are}
-use Rattle.gi_prop.specs.Assigned.{Assigned, StandsAt}
+use Rattle.gi_prop.specs.TrailView.{TrailView, StandsAt}
 use Rattle.gi_prop.specs.Attached.{Attached, IsAttached, Goes, HasSameKeys, Attaches, AddsForced, AreSettled, IsConflict}
 use Rattle.gi_scopes.specs.Under.{base_of, IsReached, AreReached, AreProblemKeys, AddsImplied, IsImpliedAt, IsFalseKey}
 use Rattle.gi_scopes.proofs.Base.{base_holds, holds_full, full_holds, live_clause, clause_live, same_full, keys_base}
@@ -48,7 +48,7 @@ key_there xs i lt e = go (slice_get_cases xs i)
       | inr b ↦ omega (arith, b.0)
     ]
 
-module _ (s : Held) where
+module _ (s : StoreView) where
   pub keys_count : length (keys_of s) ≡ length (entries s)
   keys_count = length-map (entries s) (λ (e : Entry). e.key)
 
@@ -76,19 +76,19 @@ module _ (s : Held) where
   live_at i lt = Contains-get_or (keys_of s) i 0 lt
 
   -- where the attaching of the keys stands
-  pub record IsAttaching (t : Assigned) (a : Attached) (i : ℕ) : Type 0 where
+  pub record IsAttaching (t : TrailView) (a : Attached) (i : ℕ) : Type 0 where
     pub goes : Goes a s t
     pub inside : (k : ℕ) → IsAttached a k → Contains (take i (keys_of s)) k
     pub whole : (k : ℕ) → Contains (take i (keys_of s)) k → IsAttached a k
 
-  pub attaching_none : (t : Assigned) (a : Attached) → Goes a s t → ((k : ℕ) → ¬ IsAttached a k) → IsAttaching t a 0
+  pub attaching_none : (t : TrailView) (a : Attached) → Goes a s t → ((k : ℕ) → ¬ IsAttached a k) → IsAttaching t a 0
   attaching_none t a g free = record { goes = g; inside = λ k h. absurd (free k h); whole = λ k c. absurd (omega (arith, c.1)) }
 
-  pub attaching_free : IsDistinct (keys_of s) → (t : Assigned) (a : Attached) (i : ℕ) → IsAttaching t a i → (key : ℕ) → i < length (keys_of s) → get_or (keys_of s) i 0 ≡ key → ¬ IsAttached a key
+  pub attaching_free : IsDistinct (keys_of s) → (t : TrailView) (a : Attached) (i : ℕ) → IsAttaching t a i → (key : ℕ) → i < length (keys_of s) → get_or (keys_of s) i 0 ≡ key → ¬ IsAttached a key
   attaching_free d t a i h key lt e at = IsDistinct-apart (take i (keys_of s)) (drop i (keys_of s)) key (subst IsDistinct (sym (take-append-drop i (keys_of s))) d) (h.inside key at)
       (subst (λ xs. Contains xs key) (sym (drop_more (keys_of s) i 0 lt)) (subst (λ x. Contains (x ∷ drop (i + 1) (keys_of s)) key) (sym e) (Contains-head key (drop (i + 1) (keys_of s)))))
 
-  pub attaching_more : (t : Assigned) (a b : Attached) (i : ℕ) → IsAttaching t a i → (key : ℕ) → i < length (keys_of s) → get_or (keys_of s) i 0 ≡ key → Attaches key a b → Goes b s t → IsAttaching t b (i + 1)
+  pub attaching_more : (t : TrailView) (a b : Attached) (i : ℕ) → IsAttaching t a i → (key : ℕ) → i < length (keys_of s) → get_or (keys_of s) i 0 ≡ key → Attaches key a b → Goes b s t → IsAttaching t b (i + 1)
   attaching_more t a b i h key lt e at g = record {
     goes = g;
     inside = λ k x. subst (λ xs. Contains xs k) (sym next) (elim (at.others k x) [
@@ -104,7 +104,7 @@ module _ (s : Held) where
       next : take (i + 1) (keys_of s) ≡ take i (keys_of s) ++ key ∷ []
       next = take_more (keys_of s) i 0 lt ∙ ap (λ x. take i (keys_of s) ++ x ∷ []) e
 
-  pub attached_all : (t : Assigned) (a : Attached) (i : ℕ) → i ≡ length s.plain + length s.groups → IsAttaching t a i → AreProblemKeys a (base_of s)
+  pub attached_all : (t : TrailView) (a : Attached) (i : ℕ) → i ≡ length s.plain + length s.groups → IsAttaching t a i → AreProblemKeys a (base_of s)
   attached_all t a i e h = record {
     inside = λ key at. live_clause s key (subst (λ (ks : List ℕ). Contains ks key) front (h.inside key at));
     whole = λ key c held. h.whole key (subst (λ (ks : List ℕ). Contains ks key) (sym front) (clause_live s key c held));
@@ -118,10 +118,10 @@ module _ (s : Held) where
     base_clause : (key : ℕ) (c : List ℕ) → IsAttached a key → Holds s key c → Holds (base_of s) key c
     base_clause key c at h = let q = keys.inside key at in subst (Holds (base_of s) key) (one_clause (entries s) d key q.0 c (base_holds s key q.0 q.1) h) q.1
 
-    pub adds_implied : (old new : Assigned) → AddsForced a s old new → AddsImplied (base_of s) old new
+    pub adds_implied : (old new : TrailView) → AddsForced a s old new → AddsImplied (base_of s) old new
     adds_implied old new f = record {
       vars = f.vars;
-      marks = f.marks;
+      level_starts = f.level_starts;
       more = f.more;
       lits = f.lits;
       why = f.why;
@@ -147,11 +147,11 @@ module _ (s : Held) where
     attached_base key at = let q = keys.inside key at in clause_live s key q.0 q.1
 
 -- the same keys
-pub same_problem : (s : Held) (a b : Attached) → AreProblemKeys a s → HasSameKeys a b → AreProblemKeys b s
+pub same_problem : (s : StoreView) (a b : Attached) → AreProblemKeys a s → HasSameKeys a b → AreProblemKeys b s
 same_problem s a b k same = record { inside = λ key at. k.inside key (same.others key at); whole = λ key c h. same.kept key (k.whole key c h) }
 
 -- the reason that is looked up is the key
-pub reason_key : (s : Held) (t : Assigned) (at v : ℕ) (r : Option ℕ) (h : IsImpliedAt s t at) → at < length t.lits → v ≡ get_or t.lits at 0 / 2 → ((q : ℕ) → StandsAt t.lits v q → r ≡ get_or t.reasons q None) → r ≡ Some h.key
+pub reason_key : (s : StoreView) (t : TrailView) (at v : ℕ) (r : Option ℕ) (h : IsImpliedAt s t at) → at < length t.lits → v ≡ get_or t.lits at 0 / 2 → ((q : ℕ) → StandsAt t.lits v q → r ≡ get_or t.reasons q None) → r ≡ Some h.key
 reason_key s t at v r h lt e told = told at (record { below = lt; names = sym e }) ∙ h.reason
 
 pub same_some : (a b : ℕ) → Some a ≡ Some b → a ≡ b
@@ -162,7 +162,7 @@ pub item_is : (xs ys : List ℕ) (i x : ℕ) → i < length ys → xs ≡ ys →
 item_is xs ys i x lt e is = get_or_read ys i x lt (subst (λ (zs : List ℕ). x ≡ get_or zs i x) e is) 0
 
 -- a trail that was reached under assumptions is a derivation from them
-pub under_of : (s : Held) (given : List ℕ) (t : Assigned) → AreReached (base_of s) given t (length t.lits) → IsDerivation (full (problem_of s)) given t.lits
+pub under_of : (s : StoreView) (given : List ℕ) (t : TrailView) → AreReached (base_of s) given t (length t.lits) → IsDerivation (full (problem_of s)) given t.lits
 under_of s given t r = record { each = λ k lt. step k (r.each k lt) }
   where
     step : (k : ℕ) → IsReached (base_of s) given t k → IsStep (full (problem_of s)) given (take k t.lits) (get_or t.lits k 0)
@@ -173,11 +173,11 @@ pub reason_none : (key : ℕ) → ¬ (None ≡ Some key)
 reason_none key e = cc
 
 -- what has a reason was forced
-pub implied_here : (s : Held) (given : List ℕ) (t : Assigned) (at v : ℕ) (r : Option ℕ) (key : ℕ) → r ≡ Some key → at < length t.lits → v ≡ get_or t.lits at 0 / 2 → ((q : ℕ) → StandsAt t.lits v q → r ≡ get_or t.reasons q None) → IsReached s given t at → IsImpliedAt s t at
+pub implied_here : (s : StoreView) (given : List ℕ) (t : TrailView) (at v : ℕ) (r : Option ℕ) (key : ℕ) → r ≡ Some key → at < length t.lits → v ≡ get_or t.lits at 0 / 2 → ((q : ℕ) → StandsAt t.lits v q → r ≡ get_or t.reasons q None) → IsReached s given t at → IsImpliedAt s t at
 implied_here s given t at v r key some lt e told (inl a) = absurd (reason_none key (sym (told at (record { below = lt; names = sym e }) ∙ a.0) ∙ some))
 implied_here s given t at v r key some lt e told (inr h) = h
 
 -- and what is no assumption was too
-pub implied_new : (s : Held) (given : List ℕ) (t : Assigned) (at : ℕ) → ¬ Contains given (get_or t.lits at 0) → IsReached s given t at → IsImpliedAt s t at
+pub implied_new : (s : StoreView) (given : List ℕ) (t : TrailView) (at : ℕ) → ¬ Contains given (get_or t.lits at 0) → IsReached s given t at → IsImpliedAt s t at
 implied_new s given t at n (inl a) = absurd (n a.1)
 implied_new s given t at n (inr h) = h

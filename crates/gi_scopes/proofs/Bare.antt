@@ -1,7 +1,7 @@
 -- Where no scope is open.
 use Rattle.std.proofs.Common.{◌≡◌, ℕ, List, [], ◌∷◌, length, refl, arith}
 use Rattle.gi_lit.specs.Problem.{Problem}
-use Rattle.gi_store.specs.Held.{IsWithin}
+use Rattle.gi_store.specs.StoreView.{IsWithin}
 use Rattle.gi_model.specs.State.{Scope, scope_assumed}
 use Rattle.gi_scopes.specs.Open.{StillFail}
 

@@ -5,13 +5,13 @@ use Rattle.std.proofs.lemmas.List.{append-nil, map-append, length-map, take_at}
 use Rattle.std.proofs.lemmas.List.Elements.{Contains-append_left}
 use Rattle.gi_lit.specs.Lists.{IsDistinct}
 use Rattle.gi_lit.specs.Problem.{full}
-use Rattle.gi_store.specs.Held.{Entry, Held, Holds, IsLive, Keeps, problem_of, entries, keys_of, full_entry}
+use Rattle.gi_store.specs.StoreView.{Entry, StoreView, Holds, IsLive, Keeps, problem_of, entries, keys_of, full_entry}
 use Rattle.gi_store.proofs.Lists.{Contains-map, Contains-unmap}
 use Rattle.gi_store.proofs.Editing.{entries_are}
 use Rattle.gi_store.proofs.Removing.{keeps_fewer, keeps_more}
 use Rattle.gi_scopes.specs.Under.{base_of}
 
-module _ (s : Held) where
+module _ (s : StoreView) where
   entries_split : entries s ≡ entries (base_of s) ++ s.learnt
   entries_split = ap (λ (xs : List Entry). s.plain ++ (xs ++ s.learnt)) (sym (append-nil (map full_entry s.groups))) ∙ sym (append_assoc s.plain (map full_entry s.groups ++ []) s.learnt)
 

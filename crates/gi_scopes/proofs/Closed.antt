@@ -5,9 +5,9 @@ use Rattle.std.proofs.lemmas.List.{take_at}
 use Rattle.std.proofs.lemmas.List.Elements.{Contains-append_left}
 use Rattle.gi_lit.specs.Literals.{opposite}
 use Rattle.gi_lit.specs.Closure.{IsDerivation, IsClosed, IsConsistent, Conflicts}
-use Rattle.gi_lit.specs.Problem.{full, force, IsWellFormed}
-use Rattle.gi_store.specs.Held.{Held, problem_of}
-use Rattle.gi_prop.specs.Assigned.{IsTrail}
+use Rattle.gi_lit.specs.Problem.{full, in_force, IsWellFormed}
+use Rattle.gi_store.specs.StoreView.{StoreView, problem_of}
+use Rattle.gi_prop.specs.TrailView.{IsTrail}
 use Rattle.gi_model.specs.State.{Scope, Found, listed, scope_assumed, scope_listed}
 use Rattle.gi_model.specs.Tests.{Implies}
 use Rattle.gi_scopes.specs.Under.{base_of, AreReached}
@@ -23,7 +23,7 @@ use Rattle.gi_scopes.proofs.Covering.{covered_known, covered_behind, covered_mor
 use Rattle.gi_scopes.proofs.Few.{few_more}
 use Rattle.gi_scopes.proofs.Shadowing.{nothing_fails, implies}
 
-module _ (s : Held) (w : IsWellFormed (problem_of s)) (scs : List Scope) (assumed : List ℕ) (k : Kept) (h : (f : Found) → IsBuilt k (scs ++ record { assumed = assumed; found = f } ∷ []) (base_of s) × (s.vars ≤ k.trail.vars)) (whole : IsTrail k.trail) where
+module _ (s : StoreView) (w : IsWellFormed (problem_of s)) (scs : List Scope) (assumed : List ℕ) (k : Kept) (h : (f : Found) → IsBuilt k (scs ++ record { assumed = assumed; found = f } ∷ []) (base_of s) × (s.vars ≤ k.trail.vars)) (whole : IsTrail k.trail) where
   abbrev given : List ℕ
   given = scope_assumed scs ++ assumed
 
@@ -52,7 +52,7 @@ module _ (s : Held) (w : IsWellFormed (problem_of s)) (scs : List Scope) (assume
   closed_built n f = let b = (h f).0 in record { goes = b.goes; keys = b.keys; count = b.count; levels = b.levels }
 
   module _ (ls : List ℕ) (rss : List (List ℕ)) (l : IsListing (problem_of s) (scope_assumed scs ++ assumed) (scope_listed scs) k.trail.lits ls rss) where
-    pub closed_closes : (¬ Conflicts (force (problem_of s) (scope_assumed scs ++ assumed)) (scope_assumed scs ++ assumed)) × Implies (problem_of s) (scope_assumed scs ++ assumed) (scope_listed scs) ls × AreListed (problem_of s) (scope_assumed scs ++ assumed) (scope_listed scs) ls rss
+    pub closed_closes : (¬ Conflicts (in_force (problem_of s) (scope_assumed scs ++ assumed)) (scope_assumed scs ++ assumed)) × Implies (problem_of s) (scope_assumed scs ++ assumed) (scope_listed scs) ls × AreListed (problem_of s) (scope_assumed scs ++ assumed) (scope_listed scs) ls rss
     closed_closes = (nothing_fails (problem_of s) w given k.trail.lits derived there closed whole.consistent, implies (problem_of s) w given k.trail.lits derived there closed whole.consistent (scope_listed scs) ls rss l, l.listed)
 
     pub closed_little : (kept : Option Kept) → Rises kept (Closed k) → (IsConsistent (kept_lits kept) → All (Contains (kept_lits kept)) (scope_assumed scs ++ scope_listed scs)) → length k.trail.lits ≤ length (kept_lits kept) + (length ls + length assumed + length s.active)
@@ -67,7 +67,7 @@ module _ (s : Held) (w : IsWellFormed (problem_of s)) (scs : List Scope) (assume
     more_covered : All (Contains k.trail.lits) (scope_listed scs) → IsCovered (base_of s) (scs ++ with_found (listed ls) ∷ []) k.trail.lits
     more_covered c = covered_more s w scs assumed k.trail closed_reached ls rss l c
 
-    counts : length k.trail.marks ≡ length (scs ++ with_found (listed ls) ∷ [])
+    counts : length k.trail.level_starts ≡ length (scs ++ with_found (listed ls) ∷ [])
     counts = (h (listed ls)).0.count
 
     -- where all of the trail was looked at
@@ -85,7 +85,7 @@ module _ (s : Held) (w : IsWellFormed (problem_of s)) (scs : List Scope) (assume
         wider : (m : ℕ) → Contains old.trail.lits m → Contains k.trail.lits m
         wider m c = subst (λ xs. Contains xs m) (sym r.lits) (Contains-append_left old.trail.lits r.more m c)
 
-        lower : (j : ℕ) → n < j → j ≤ length scs → IsCovered (base_of s) (take j scs) (take (get_or k.trail.marks j (length k.trail.lits)) k.trail.lits)
+        lower : (j : ℕ) → n < j → j ≤ length scs → IsCovered (base_of s) (take j scs) (take (get_or k.trail.level_starts j (length k.trail.lits)) k.trail.lits)
         lower j above le = covers_lower (base_of s) scs old k.trail whole b.0.count r b.1 j (omega (arith, a.0, above)) le
 
   pub kept_known : (kept : Option Kept) → IsFor kept scs (base_of s) → Rises kept (Closed k) → (n : ℕ) → IsListedAbove kept (length scs) n → AreKnown (problem_of s) ((scope_assumed scs ++ assumed) ++ scope_listed scs) (take (length (kept_lits kept)) k.trail.lits)

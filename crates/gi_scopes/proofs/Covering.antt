@@ -7,9 +7,9 @@ use Rattle.std.proofs.lemmas.List.Elements.{All-nil, All-append, All-contains, C
 use Rattle.gi_lit.specs.Problem.{Group, has, full, guarded, negatives, IsPlain, IsGroup, IsWellFormed, IsProblemVar}
 use Rattle.gi_lit.proofs.Lists.{Contains-map, Contains-unmap}
 use Rattle.gi_lit.proofs.Vars.{var_facts, Contains-from_has, has-from_Contains}
-use Rattle.gi_store.specs.Held.{Held, problem_of}
+use Rattle.gi_store.specs.StoreView.{StoreView, problem_of}
 use Rattle.gi_store.proofs.Edits.{group_in}
-use Rattle.gi_prop.specs.Assigned.{Assigned, IsTrail}
+use Rattle.gi_prop.specs.TrailView.{TrailView, IsTrail}
 use Rattle.gi_model.specs.State.{Scope, listed, listed_in, scope_assumed, scope_listed}
 use Rattle.gi_scopes.specs.Under.{base_of, IsReached, AreReached}
 use Rattle.gi_scopes.specs.Built.{front, IsOfGuard, IsCovered, CoversLevels, IsHigher, Stays, Rises, kept_lits}
@@ -20,7 +20,7 @@ use Rattle.gi_scopes.specs.declared.kept.Reach.TheVariants.{Closed, Stuck}
 use Rattle.gi_scopes.proofs.Base.{same_full, holds_full}
 use Rattle.gi_scopes.proofs.Listing.{scope_assumed-push, scope_listed-push, scope_listed-more}
 
-module _ (s : Held) (w : IsWellFormed (problem_of s)) where
+module _ (s : StoreView) (w : IsWellFormed (problem_of s)) where
   -- a guard is no problem variable
   pub guard_other : (m : ℕ) → IsOfGuard (base_of s) m → ¬ IsProblemVar (problem_of s) (m / 2)
   guard_other m g v = (var_facts (problem_of s) (m / 2) v).inactive (subst (Contains s.active) half (All-contains (Contains s.active) g.group.guards q.0 inside.1 q.1))
@@ -84,7 +84,7 @@ module _ (s : Held) (w : IsWellFormed (problem_of s)) where
         same {m} false true f g n = absurd (both_ways (has ((scope_assumed scs ++ assumed) ++ scope_listed scs) m) f (has-from_Contains ((scope_assumed scs ++ assumed) ++ scope_listed scs) m (Contains-append_left (scope_assumed scs ++ assumed) (scope_listed scs) m (Contains-append_right (scope_assumed scs) assumed m (Contains-from_has assumed m g)))))
 
     -- with one scope more, and what it lists
-    module _ (assumed : List ℕ) (t : Assigned) (r : AreReached (base_of s) (scope_assumed scs ++ assumed) t (length t.lits)) (ls : List ℕ) (rss : List (List ℕ)) (h : IsListing (problem_of s) (scope_assumed scs ++ assumed) (scope_listed scs) t.lits ls rss) (there : All (Contains t.lits) (scope_listed scs)) where
+    module _ (assumed : List ℕ) (t : TrailView) (r : AreReached (base_of s) (scope_assumed scs ++ assumed) t (length t.lits)) (ls : List ℕ) (rss : List (List ℕ)) (h : IsListing (problem_of s) (scope_assumed scs ++ assumed) (scope_listed scs) t.lits ls rss) (there : All (Contains t.lits) (scope_listed scs)) where
       abbrev sc : Scope
       sc = record { assumed = assumed; found = listed ls }
 
@@ -108,44 +108,44 @@ module _ (s : Held) (w : IsWellFormed (problem_of s)) where
       }
 
 -- the levels of a trail, one of them new, where the lower ones are accounted for and the whole is
-pub covers_top : (b : Held) (scs : List Scope) (sc : Scope) (k : Kept) → length k.trail.marks ≡ length (scs ++ sc ∷ []) → ((j : ℕ) → k.unlisted < j → j ≤ length scs → IsCovered b (take j scs) (take (front k.trail j) k.trail.lits)) → (k.unlisted ≤ length scs → IsCovered b (scs ++ sc ∷ []) k.trail.lits) → CoversLevels k (scs ++ sc ∷ []) b
+pub covers_top : (b : StoreView) (scs : List Scope) (sc : Scope) (k : Kept) → length k.trail.level_starts ≡ length (scs ++ sc ∷ []) → ((j : ℕ) → k.unlisted < j → j ≤ length scs → IsCovered b (take j scs) (take (front k.trail j) k.trail.lits)) → (k.unlisted ≤ length scs → IsCovered b (scs ++ sc ∷ []) k.trail.lits) → CoversLevels k (scs ++ sc ∷ []) b
 covers_top b scs sc k count lower top = record {
   levels = λ j above le. elim (cases_lt (length scs) j) [
     | inr low ↦ subst (λ (xs : List Scope). IsCovered b xs (take (front k.trail j) k.trail.lits)) (sym (take-append-le j scs (sc ∷ []) low)) (lower j above low)
     | inl high ↦
-        let e : front k.trail j ≡ length k.trail.lits = get_or_past k.trail.marks j (length k.trail.lits) (omega (arith, count, high, length-append scs (sc ∷ []))) in
+        let e : front k.trail j ≡ length k.trail.lits = get_or_past k.trail.level_starts j (length k.trail.lits) (omega (arith, count, high, length-append scs (sc ∷ []))) in
         let all : take j (scs ++ sc ∷ []) ≡ scs ++ sc ∷ [] = take_all j (scs ++ sc ∷ []) (omega (arith, high, length-append scs (sc ∷ []))) in
         rw (e, all, take_all (length k.trail.lits) k.trail.lits (omega arith)) (top (omega (arith, above, le, length-append scs (sc ∷ []))))
   ];
 }
 
 -- the lower levels are where they were, in a trail with one level more
-pub covers_lower : (b : Held) (scs : List Scope) (k : Kept) (n : Assigned) → IsTrail n → length k.trail.marks ≡ length scs → IsHigher k.trail n → CoversLevels k scs b → (j : ℕ) → k.unlisted < j → j ≤ length scs → IsCovered b (take j scs) (take (front n j) n.lits)
+pub covers_lower : (b : StoreView) (scs : List Scope) (k : Kept) (n : TrailView) → IsTrail n → length k.trail.level_starts ≡ length scs → IsHigher k.trail n → CoversLevels k scs b → (j : ℕ) → k.unlisted < j → j ≤ length scs → IsCovered b (take j scs) (take (front n j) n.lits)
 covers_lower b scs k n whole count h c j above le = subst (λ i. IsCovered b (take j scs) (take i n.lits)) (sym fronts) (subst (IsCovered b (take j scs)) (sym same) (c.levels j above le))
   where
     fronts : front n j ≡ front k.trail j
-    fronts = ap (λ ms. get_or ms j (length n.lits)) h.marks ∙ elim (cases_lt j (length k.trail.marks)) [
-      | inl lt ↦ get_or_append_left k.trail.marks (length k.trail.lits ∷ []) (length n.lits) j lt ∙ get_or_default k.trail.marks j (length n.lits) (length k.trail.lits) lt
-      | inr high ↦ get_or_push k.trail.marks (length k.trail.lits) (length n.lits) j (omega (arith, high, le, count)) ∙ sym (get_or_past k.trail.marks j (length k.trail.lits) high)
+    fronts = ap (λ ms. get_or ms j (length n.lits)) h.level_starts ∙ elim (cases_lt j (length k.trail.level_starts)) [
+      | inl lt ↦ get_or_append_left k.trail.level_starts (length k.trail.lits ∷ []) (length n.lits) j lt ∙ get_or_default k.trail.level_starts j (length n.lits) (length k.trail.lits) lt
+      | inr high ↦ get_or_push k.trail.level_starts (length k.trail.lits) (length n.lits) j (omega (arith, high, le, count)) ∙ sym (get_or_past k.trail.level_starts j (length k.trail.lits) high)
     ]
 
     below : front k.trail j ≤ length k.trail.lits
-    below = elim (cases_lt j (length k.trail.marks)) [
+    below = elim (cases_lt j (length k.trail.level_starts)) [
       | inl lt ↦
-          let o : get_or n.marks j 0 ≤ get_or n.marks (length k.trail.marks) 0 = whole.levels.ordered j (length k.trail.marks) (omega (arith, lt)) (omega (arith, ap length h.marks, length-append k.trail.marks (length k.trail.lits ∷ []))) in
-          let a : get_or n.marks j 0 ≡ front k.trail j = ap (λ ms. get_or ms j 0) h.marks ∙ get_or_append_left k.trail.marks (length k.trail.lits ∷ []) 0 j lt ∙ get_or_default k.trail.marks j 0 (length k.trail.lits) lt in
-          let e : get_or n.marks (length k.trail.marks) 0 ≡ length k.trail.lits = ap (λ ms. get_or ms (length k.trail.marks) 0) h.marks ∙ get_or_push k.trail.marks (length k.trail.lits) 0 (length k.trail.marks) refl in
+          let o : get_or n.level_starts j 0 ≤ get_or n.level_starts (length k.trail.level_starts) 0 = whole.levels.ordered j (length k.trail.level_starts) (omega (arith, lt)) (omega (arith, ap length h.level_starts, length-append k.trail.level_starts (length k.trail.lits ∷ []))) in
+          let a : get_or n.level_starts j 0 ≡ front k.trail j = ap (λ ms. get_or ms j 0) h.level_starts ∙ get_or_append_left k.trail.level_starts (length k.trail.lits ∷ []) 0 j lt ∙ get_or_default k.trail.level_starts j 0 (length k.trail.lits) lt in
+          let e : get_or n.level_starts (length k.trail.level_starts) 0 ≡ length k.trail.lits = ap (λ ms. get_or ms (length k.trail.level_starts) 0) h.level_starts ∙ get_or_push k.trail.level_starts (length k.trail.lits) 0 (length k.trail.level_starts) refl in
           omega (arith, o, a, e)
-      | inr high ↦ omega (arith, get_or_past k.trail.marks j (length k.trail.lits) high)
+      | inr high ↦ omega (arith, get_or_past k.trail.level_starts j (length k.trail.lits) high)
     ]
 
     same : take (front k.trail j) n.lits ≡ take (front k.trail j) k.trail.lits
     same = ap (take (front k.trail j)) h.lits ∙ take-append-le (front k.trail j) k.trail.lits h.more below
 
 -- the whole of a trail that was kept, where each of its levels is accounted for
-pub covered_now : (b : Held) (scs : List Scope) (k : Kept) → length k.trail.marks ≡ length scs → CoversLevels k scs b → k.unlisted < length scs → IsCovered b scs k.trail.lits
+pub covered_now : (b : StoreView) (scs : List Scope) (k : Kept) → length k.trail.level_starts ≡ length scs → CoversLevels k scs b → k.unlisted < length scs → IsCovered b scs k.trail.lits
 covered_now b scs k count c above =
-    let e : front k.trail (length scs) ≡ length k.trail.lits = get_or_past k.trail.marks (length scs) (length k.trail.lits) (omega (arith, count)) in
+    let e : front k.trail (length scs) ≡ length k.trail.lits = get_or_past k.trail.level_starts (length scs) (length k.trail.lits) (omega (arith, count)) in
     let h : IsCovered b (take (length scs) scs) (take (front k.trail (length scs)) k.trail.lits) = c.levels (length scs) above (omega arith) in
     subst (IsCovered b scs) (ap (λ n. take n k.trail.lits) e ∙ take_all (length k.trail.lits) k.trail.lits (omega arith)) (subst (λ (xs : List Scope). IsCovered b xs (take (front k.trail (length scs)) k.trail.lits)) (take_all (length scs) scs (omega arith)) h)
 
@@ -161,10 +161,10 @@ pub there_more : (lits : List ℕ) (scs : List Scope) (i : ℕ) (sc : Scope) →
 there_more lits scs i sc lt item a b = subst (All (Contains lits)) (sym (scope_listed-more scs i sc lt item)) (All-append (Contains lits) (scope_listed (take i scs)) (listed_in sc.found) a b)
 
 -- one level more on a trail that stayed
-pub rises_of : (kept : Option Kept) (a n : Kept) → Stays kept (Closed a) → n.trail.marks ≡ a.trail.marks ++ length a.trail.lits ∷ [] → (more : List ℕ) → n.trail.lits ≡ a.trail.lits ++ more → Rises kept (Closed n)
+pub rises_of : (kept : Option Kept) (a n : Kept) → Stays kept (Closed a) → n.trail.level_starts ≡ a.trail.level_starts ++ length a.trail.lits ∷ [] → (more : List ℕ) → n.trail.lits ≡ a.trail.lits ++ more → Rises kept (Closed n)
 rises_of None a n h m more l = tt
 rises_of (Some old) a n h m more l = record {
-  marks = m ∙ ap (λ ms. ms ++ length a.trail.lits ∷ []) h.1 ∙ ap (λ (xs : List ℕ). old.trail.marks ++ length xs ∷ []) h.0;
+  level_starts = m ∙ ap (λ ms. ms ++ length a.trail.lits ∷ []) h.1 ∙ ap (λ (xs : List ℕ). old.trail.level_starts ++ length xs ∷ []) h.0;
   more = more;
   lits = l ∙ ap (λ xs. xs ++ more) h.0;
 }

@@ -4,7 +4,7 @@ use Rattle.std.proofs.lemmas.List.{take_more, take_all}
 use Rattle.std.proofs.lemmas.List.Elements.{All-contains}
 use Rattle.gi_lit.specs.Lists.{IsSublist}
 use Rattle.gi_lit.specs.Truth.{Fail}
-use Rattle.gi_lit.specs.Problem.{Problem, force}
+use Rattle.gi_lit.specs.Problem.{Problem, in_force}
 use Rattle.gi_model.specs.State.{Scope, failing, scope_assumed, scope_listed}
 use Rattle.gi_model.specs.Tests.{HasFailed, SomeFailed}
 use Rattle.gi_scopes.specs.Open.{FoundFails, ScopeFails, StillFail}
@@ -47,7 +47,7 @@ module _ (scs : List Scope) (w : List ℕ) (h : HasFailing scs w) where
   pub failing_chosen : AreChosen [] scs → (more : List ℕ) → IsSublist w (scope_assumed scs ++ more)
   failing_chosen c more = sublist_more w (scope_assumed scs) more (chosen_at [] scs h.stands.0 h.scope w c h.stands.1 h.stands.2 h.failed)
 
-  pub failing_fails : (p : Problem) → StillFail p scs → Fail (force p w) w
+  pub failing_fails : (p : Problem) → StillFail p scs → Fail (in_force p w) w
   failing_fails p a =
       let f : ScopeFails p h.scope = All-contains (ScopeFails p) scs h.scope a h.stands in
       subst (FoundFails p) h.failed f

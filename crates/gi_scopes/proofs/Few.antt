@@ -17,7 +17,7 @@ use Rattle.gi_lit.specs.Guards.{IsGuardedLit}
 use Rattle.gi_lit.proofs.Lists.{Contains-map}
 use Rattle.gi_lit.proofs.Resting.{problem_or_guard}
 use Rattle.gi_lit.proofs.Vars.{lacks_none}
-use Rattle.gi_store.specs.Held.{Held, problem_of}
+use Rattle.gi_store.specs.StoreView.{StoreView, problem_of}
 use Rattle.gi_model.specs.State.{Scope, listed_in, scope_assumed, scope_listed}
 use Rattle.gi_model.specs.Tests.{before}
 use Rattle.gi_scopes.specs.Open.{AreExplained, IsReasoned}
@@ -198,7 +198,7 @@ unfolding scope_assumed scope_listed
 nothing xs = All-nil (Contains xs)
 
 -- where a trail is kept it has what the scopes assume and list; where no scope is open that is nothing
-pub kept_knows : (s : Held) (scs : List Scope) (rss : List (List ℕ)) (k : Option Kept) → IsFor k scs (base_of s) → IsSome k ⊎ (scs ≡ []) → AreExplained (problem_of s) scs rss → AreEarlier scs rss → IsConsistent (kept_lits k) → All (Contains (kept_lits k)) (scope_assumed scs ++ scope_listed scs)
+pub kept_knows : (s : StoreView) (scs : List Scope) (rss : List (List ℕ)) (k : Option Kept) → IsFor k scs (base_of s) → IsSome k ⊎ (scs ≡ []) → AreExplained (problem_of s) scs rss → AreEarlier scs rss → IsConsistent (kept_lits k) → All (Contains (kept_lits k)) (scope_assumed scs ++ scope_listed scs)
 kept_knows s scs rss (Some k) h some a e free = All-append (Contains k.trail.lits) (scope_assumed scs) (scope_listed scs) there (listed_there (problem_of s) scs rss a e k.trail.lits closed free there)
   where
     there : All (Contains k.trail.lits) (scope_assumed scs)

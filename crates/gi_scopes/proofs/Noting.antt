@@ -14,8 +14,8 @@ use Rattle.gi_lit.proofs.Distinct.{IsDistinct-push}
 use Rattle.gi_lit.specs.Guards.{IsGuardedLit}
 use Rattle.gi_lit.proofs.Resting.{problem_or_guard}
 use Rattle.gi_lit.proofs.Vars.{Contains-from_has, has-from_Contains, lacks_none}
-use Rattle.gi_store.specs.Held.{Held, problem_of}
-use Rattle.gi_prop.specs.Assigned.{Assigned}
+use Rattle.gi_store.specs.StoreView.{StoreView, problem_of}
+use Rattle.gi_prop.specs.TrailView.{TrailView}
 use Rattle.gi_model.specs.State.{Scope, listed_in, scope_listed}
 use Rattle.gi_scopes.specs.Open.{IsReasoned}
 use Rattle.gi_scopes.specs.Under.{base_of, IsImpliedAt}
@@ -59,10 +59,10 @@ others_more clause m i x old new lt item h n = record {
     next = take_more clause i x lt ∙ ap (λ y. take i clause ++ y ∷ []) (sym item)
 
 -- the reasons of a literal that a clause forced
-pub reasoned_of : (s : Held) (t : Assigned) (at : ℕ) (h : IsImpliedAt (base_of s) t at) (rs : List ℕ) → AreOthers h.clause (get_or t.lits at 0) rs → IsReasoned (problem_of s) (get_or t.lits at 0) rs
+pub reasoned_of : (s : StoreView) (t : TrailView) (at : ℕ) (h : IsImpliedAt (base_of s) t at) (rs : List ℕ) → AreOthers h.clause (get_or t.lits at 0) rs → IsReasoned (problem_of s) (get_or t.lits at 0) rs
 reasoned_of s t at h rs o = record { clause = h.clause; stands = subst (λ (cs : List (List ℕ)). Contains cs h.clause) (same_full s) (holds_full s h.key h.clause h.held); holds = h.forces.stands; others = o.others; distinct = o.distinct }
 
-pub before_of : (s : Held) (t : Assigned) (at : ℕ) (h : IsImpliedAt s t at) (rs : List ℕ) → AreOthers h.clause (get_or t.lits at 0) rs → All (Contains (take at t.lits)) rs
+pub before_of : (s : StoreView) (t : TrailView) (at : ℕ) (h : IsImpliedAt s t at) (rs : List ℕ) → AreOthers h.clause (get_or t.lits at 0) rs → All (Contains (take at t.lits)) rs
 before_of s t at h rs o k d lt =
     let y = (o.others (get_or rs k d)).0 (Contains-get_or rs k d lt) in
     elim (All-contains (λ m. (m ≡ get_or t.lits at 0) ⊎ Contains (take at t.lits) (opposite m)) h.clause y.0 h.forces.others y.1) [

@@ -4,7 +4,7 @@ use Rattle.std.specs.List.{Contains}
 use Rattle.std.proofs.lemmas.List.{take-append-drop}
 use Rattle.std.proofs.lemmas.List.Elements.{All-append, All-push, All-take, All-contains, Contains-append_left, Contains-get_or}
 use Rattle.gi_lit.specs.Problem.{Problem}
-use Rattle.gi_store.specs.Held.{IsWithin}
+use Rattle.gi_store.specs.StoreView.{IsWithin}
 use Rattle.gi_model.specs.State.{Scope, Found, listed, failing, scope_assumed}
 use Rattle.gi_scopes.specs.Open.{FoundFails, ScopeFails, StillFail}
 use Rattle.gi_scopes.specs.Laws.{TestsStayReady, UntestsStayReady}

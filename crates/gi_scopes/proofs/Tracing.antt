@@ -11,8 +11,8 @@ use Rattle.gi_lit.specs.Problem.{Problem, full}
 use Rattle.gi_lit.proofs.Literals.{var-opposite}
 use Rattle.gi_lit.proofs.Distinct.{Contains-head}
 use Rattle.gi_lit.proofs.Closure.{given_derives, IsDerivation-push}
-use Rattle.gi_prop.specs.Assigned.{Assigned, StandsAt, IsUnassigned}
-use Rattle.gi_store.specs.Held.{Held, problem_of}
+use Rattle.gi_prop.specs.TrailView.{TrailView, StandsAt, IsUnassigned}
+use Rattle.gi_store.specs.StoreView.{StoreView, problem_of}
 use Rattle.gi_scopes.specs.Traced.{AreSeen, KeepsMarks, IsResolved, Refutes, LeadsToFalse, IsPicked}
 use Rattle.gi_scopes.specs.Under.{IsImpliedAt, IsReached, AreReached}
 use Rattle.gi_scopes.proofs.Fronts.{place_in_take, sublist_skip, sublist_push}
@@ -136,7 +136,7 @@ refuted_literal p w l a r = record {
 }
 
 -- where the tracing stands
-pub record TracedTo (s : Held) (t : Assigned) (clause : List ℕ) (seen : List Bool) (at : ℕ) : Type 0 where
+pub record TracedTo (s : StoreView) (t : TrailView) (clause : List ℕ) (seen : List Bool) (at : ℕ) : Type 0 where
   pub count : length seen ≡ length t.lits
   pub high : at ≤ length t.lits
   pub own : AreSeen t.lits clause seen
@@ -146,7 +146,7 @@ pub AreSeen-kept : (lits clause : List ℕ) (old new : List Bool) → AreSeen li
 AreSeen-kept lits clause old new a k m q c s = k.kept q (a m q c s)
 
 -- a place more is traced
-pub traced_more : (s : Held) (t : Assigned) (clause : List ℕ) (old new : List Bool) (at : ℕ) → at < length t.lits → TracedTo s t clause old (at + 1) → KeepsMarks old new → (get_or old at false ≡ true → IsImpliedAt s t at → IsResolved (problem_of s) t.lits at new) → TracedTo s t clause new at
+pub traced_more : (s : StoreView) (t : TrailView) (clause : List ℕ) (old new : List Bool) (at : ℕ) → at < length t.lits → TracedTo s t clause old (at + 1) → KeepsMarks old new → (get_or old at false ≡ true → IsImpliedAt s t at → IsResolved (problem_of s) t.lits at new) → TracedTo s t clause new at
 traced_more s t clause old new at lt h k resolved = record {
   count = k.count ∙ h.count;
   high = omega arith;

@@ -13,10 +13,10 @@ use Rattle.gi_scopes.specs.declared.answers.Reasoned.{Reasoned}
 use Rattle.gi_scopes.specs.declared.answers.Reasoned.TheVariants as reasoned
 
 -- the answer to a test with these assumptions over these scopes; want of memory is free
-abbrev pub Answers : Problem → List Scope → List ℕ → Tested → Type 0
-Answers p scopes assumed (tested.Implied ls) = AnswersTest (asked p scopes assumed) (reply.Implied ls)
-Answers p scopes assumed (tested.Failed w) = AnswersTest (asked p scopes assumed) (reply.Failed w)
-Answers p scopes assumed tested.NoMemory = Unit {0}
+abbrev pub TellsTest : Problem → List Scope → List ℕ → Tested → Type 0
+TellsTest p scopes assumed (tested.Implied ls) = AnswersTest (asked p scopes assumed) (reply.Implied ls)
+TellsTest p scopes assumed (tested.Failed w) = AnswersTest (asked p scopes assumed) (reply.Failed w)
+TellsTest p scopes assumed tested.NoMemory = Unit {0}
 
 -- a test opens a scope with its assumptions and with what it found; want of memory opens none
 abbrev pub Opens : Open → List ℕ → Tested → Open → Type 0
@@ -41,7 +41,7 @@ TicksFew p old assumed (tested.Implied ls) before now = IsSome old.kept ⊎ (old
 TicksFew p old assumed answer before now = Unit {0}
 
 -- the reasons explain the literal; it isn't implied exactly where no open scope lists it
-abbrev pub Tells : Open → ℕ → Reasoned → Type 0
-Tells o m (reasoned.Reasons rs) = Contains (scope_listed o.scopes) m × ((p : Problem) → AreReasoned p o → Explains (asked p o.scopes []) m rs)
-Tells o m reasoned.NotImplied = ¬ Contains (scope_listed o.scopes) m
-Tells o m reasoned.NoMemory = Contains (scope_listed o.scopes) m
+abbrev pub TellsReasons : Open → ℕ → Reasoned → Type 0
+TellsReasons o m (reasoned.Reasons rs) = Contains (scope_listed o.scopes) m × ((p : Problem) → AreReasoned p o → Explains (asked p o.scopes []) m rs)
+TellsReasons o m reasoned.NotImplied = ¬ Contains (scope_listed o.scopes) m
+TellsReasons o m reasoned.NoMemory = Contains (scope_listed o.scopes) m

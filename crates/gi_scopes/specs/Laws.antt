@@ -1,10 +1,10 @@
 -- Laws over what contracts see.
 use Rattle.std.specs.Prelude.{List, ℕ, take, Contains}
 use Rattle.gi_lit.specs.Problem.{Problem, full}
-use Rattle.gi_store.specs.Held.{IsWithin}
+use Rattle.gi_store.specs.StoreView.{IsWithin}
 use Rattle.gi_model.specs.State.{Scope, scope_assumed}
 use Rattle.gi_scopes.specs.Open.{Open, AreReasoned, StillFail}
-use Rattle.gi_scopes.specs.Answers.{Answers, Opens}
+use Rattle.gi_scopes.specs.Answers.{TellsTest, Opens}
 use Rattle.gi_scopes.specs.declared.answers.Tested.{Tested}
 
 -- where each clause of one problem is one of another, reasons by the one are reasons by the other
@@ -13,7 +13,7 @@ MoreClausesKeepReasons = (p q : Problem) (o : Open) → ((c : List ℕ) → Cont
 
 -- after a test the conditions of the next one hold
 abbrev pub TestsStayReady : Type 0
-TestsStayReady = (n : ℕ) (p : Problem) (old new : Open) (assumed : List ℕ) (answer : Tested) → Answers p old.scopes assumed answer → Opens old assumed answer new → IsWithin n assumed
+TestsStayReady = (n : ℕ) (p : Problem) (old new : Open) (assumed : List ℕ) (answer : Tested) → TellsTest p old.scopes assumed answer → Opens old assumed answer new → IsWithin n assumed
     → IsWithin n (scope_assumed old.scopes) → StillFail p old.scopes → IsWithin n (scope_assumed new.scopes) × StillFail p new.scopes
 
 -- and they hold after scopes are closed

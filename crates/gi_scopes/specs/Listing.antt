@@ -4,11 +4,11 @@ use Rattle.gi_lit.specs.Literals.{opposite}
 use Rattle.gi_lit.specs.Lists.{IsDistinct, IsSublist}
 use Rattle.gi_lit.specs.Truth.{Fail}
 use Rattle.gi_lit.specs.Closure.{Conflicts, IsConsistent}
-use Rattle.gi_lit.specs.Problem.{Problem, force, has, IsProblemVar}
+use Rattle.gi_lit.specs.Problem.{Problem, in_force, has, IsProblemVar}
 use Rattle.gi_model.specs.State.{Scope, listed, scope_assumed, scope_listed}
 use Rattle.gi_model.specs.Tests.{Implies, AnswersTest}
 use Rattle.gi_model.specs.declared.replies.Reply.TheVariants as reply
-use Rattle.gi_store.specs.Held.{Held}
+use Rattle.gi_store.specs.StoreView.{StoreView}
 use Rattle.gi_scopes.specs.Under.{base_of}
 use Rattle.gi_scopes.specs.Built.{IsFor}
 use Rattle.gi_scopes.specs.Open.{asked, IsReasoned}
@@ -71,8 +71,8 @@ pub record IsListing (p : Problem) (given earlier lits ls : List ℕ) (rss : Lis
 
 -- what unit closure under assumptions finds, where these are listed already
 abbrev pub Closes : Problem → List ℕ → List ℕ → Outcome → Type 0
-Closes p given earlier (Listed i k) = ¬ Conflicts (force p given) given × Implies p given earlier i.lits × AreListed p given earlier i.lits i.reasons.items
-Closes p given earlier (Failing w) = Conflicts (force p given) given × IsSublist w given × Fail (force p w) w
+Closes p given earlier (Listed i k) = ¬ Conflicts (in_force p given) given × Implies p given earlier i.lits × AreListed p given earlier i.lits i.reasons.items
+Closes p given earlier (Failing w) = Conflicts (in_force p given) given × IsSublist w given × Fail (in_force p w) w
 
 -- what a test finds, with the reasons of what it lists
 abbrev pub Finds : Problem → List Scope → List ℕ → Outcome → Type 0
@@ -80,7 +80,7 @@ Finds p scopes assumed (Listed i k) = AnswersTest (asked p scopes assumed) (repl
 Finds p scopes assumed (Failing w) = AnswersTest (asked p scopes assumed) (reply.Failed w)
 
 -- the trail goes on for one scope more, with these assumptions
-abbrev pub Builds : Held → List Scope → List ℕ → Outcome → Type 0
+abbrev pub Builds : StoreView → List Scope → List ℕ → Outcome → Type 0
 Builds s scopes assumed (Listed i k) = IsFor (Some k) (scopes ++ record { assumed = assumed; found = listed i.lits } ∷ []) (base_of s)
 Builds s scopes assumed (Failing w) = Unit {0}
 

@@ -4,7 +4,7 @@ use Rattle.std.specs.Prelude.{◌≡◌, ◌≢◌, ℕ, ◌<◌, ◌↔◌, Opt
 use Rattle.gi_lit.specs.Literals.{opposite}
 use Rattle.gi_lit.specs.Lists.{IsDistinct}
 use Rattle.gi_lit.specs.Truth.{Fail}
-use Rattle.gi_lit.specs.Problem.{Problem, force, full}
+use Rattle.gi_lit.specs.Problem.{Problem, in_force, full}
 use Rattle.gi_model.specs.State.{State, Scope, Found, listed, failing, opening, scope_listed}
 use Rattle.gi_scopes.specs.declared.kept.Kept.{Kept}
 
@@ -36,7 +36,7 @@ AreReasoned p o = AreExplained p o.scopes o.reasons
 -- a failing set fails
 abbrev pub FoundFails : Problem → Found → Type 0
 FoundFails p (listed ls) = Unit {0}
-FoundFails p (failing w) = Fail (force p w) w
+FoundFails p (failing w) = Fail (in_force p w) w
 
 -- and that of a scope, if its test failed
 abbrev pub ScopeFails : Problem → Scope → Type 0

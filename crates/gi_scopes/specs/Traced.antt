@@ -2,7 +2,7 @@
 use Rattle.std.specs.Prelude.{◌≡◌, ℕ, ◌/◌, ◌<◌, Bool, true, false, List, length, take, slice_index, slice_index_or, Contains}
 use Rattle.gi_lit.specs.Closure.{Forces, IsDerivation, IsFalsified}
 use Rattle.gi_lit.specs.Problem.{Problem, full}
-use Rattle.gi_prop.specs.Assigned.{StandsAt}
+use Rattle.gi_prop.specs.TrailView.{StandsAt}
 
 -- the place of each of these literals' variables is marked
 abbrev pub AreSeen : List ℕ → List ℕ → List Bool → Type 0

@@ -1,6 +1,6 @@
 ghost use Rattle.std.specs.Prelude.{◌≡◌, ◌≤◌, ◌<◌, ◌/◌, ℕ, List, false, length, All, Contains, IfSome, IfNone, OnOk, IsTrue};
 ghost use Rattle.gi_lit.specs.Literals.{opposite};
-ghost use Rattle.gi_store.specs.Held.{Held, IsWithin};
+ghost use Rattle.gi_store.specs.StoreView.{StoreView, IsWithin};
 ghost use Rattle.gi_prop.specs.Attached.{Attached, IsAttached, Goes};
 ghost use Rattle.gi_scopes.specs.Under.{Adds, base_of, AreProblemKeys};
 
@@ -14,7 +14,7 @@ use std::alloc::AllocError;
 fn take_on(trail: &mut Trail, l: Lit) -> bool
     requires { l / 2 ≤ trail.old.vars }
     ensures adds { (given : List ℕ) → Contains given l → Adds given trail.old trail.new }
-    ensures goes { (p : Attached) (s : Held) → Goes p s trail.old → Goes p s trail.new }
+    ensures goes { (p : Attached) (s : StoreView) → Goes p s trail.old → Goes p s trail.new }
     ensures taken { IsTrue result → Contains trail.new.lits l }
     ensures clash { result ≡ false → Contains trail.new.lits (opposite l) }
 {
@@ -31,7 +31,7 @@ fn take_on(trail: &mut Trail, l: Lit) -> bool
 pub(crate) fn assume(trail: &mut Trail, given: &[Lit]) -> Option<Lit>
     requires { IsWithin trail.old.vars given.now }
     ensures adds { Adds given.now trail.old trail.new }
-    ensures goes { (p : Attached) (s : Held) → Goes p s trail.old → Goes p s trail.new }
+    ensures goes { (p : Attached) (s : StoreView) → Goes p s trail.old → Goes p s trail.new }
     ensures whole { IfNone result (All (Contains trail.new.lits) given.now) }
     ensures stands { IfSome result (λ l. Contains given.now l) }
     ensures clash { IfSome result (λ l. Contains trail.new.lits (opposite l)) }

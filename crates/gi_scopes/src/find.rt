@@ -2,7 +2,7 @@ ghost use Rattle.std.specs.Prelude.{◌≡◌, ◌≤◌, ◌<◌, ◌+◌, ◌-
 ghost use Rattle.gi_lit.specs.Lists.{IsSublist};
 ghost use Rattle.gi_lit.specs.Closure.{Conflicts, IsFalsified};
 ghost use Rattle.gi_lit.specs.Problem.{full};
-ghost use Rattle.gi_store.specs.Held.{IsWithin, problem_of};
+ghost use Rattle.gi_store.specs.StoreView.{IsWithin, problem_of};
 ghost use Rattle.gi_model.specs.State.{scope_assumed, scope_listed};
 ghost use Rattle.gi_scopes.specs.Under.{base_of, AreReached};
 ghost use Rattle.gi_scopes.specs.Built.{IsFor, IsStuck, kept_lits};

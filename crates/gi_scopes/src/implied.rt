@@ -1,7 +1,7 @@
 ghost use Rattle.std.specs.Prelude.{◌≡◌, ◌≢◌, ◌<◌, ◌≤◌, ◌/◌, ◌*◌, ◌+◌, ℕ, [], ◌∷◌, ◌++◌, false, length, take, slice_index, slice_index_or, All, Contains, IfOk, OnOk, IfSome, IfNone, IsTrue, ◌↔◌};
 ghost use Rattle.gi_lit.specs.Literals.{opposite};
 ghost use Rattle.gi_lit.specs.Problem.{IsProblemVar};
-ghost use Rattle.gi_store.specs.Held.{problem_of};
+ghost use Rattle.gi_store.specs.StoreView.{problem_of};
 ghost use Rattle.gi_model.specs.State.{scope_listed};
 ghost use Rattle.gi_scopes.specs.Open.{IsReasoned};
 ghost use Rattle.gi_scopes.specs.Under.{base_of, IsImpliedAt, AreReached};

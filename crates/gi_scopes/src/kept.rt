@@ -1,7 +1,7 @@
 ghost use Rattle.std.specs.Prelude.{◌≡◌, ◌<◌, ◌≤◌, ℕ, List, ◌++◌, ◌∷◌, [], length, take, All, Contains, IfOk, IfNone, IfSome, OnOk, is_some};
 ghost use Rattle.gi_lit.specs.Closure.{IsClosed};
 ghost use Rattle.gi_lit.specs.Problem.{full};
-ghost use Rattle.gi_store.specs.Held.{Held, IsWithin, problem_of};
+ghost use Rattle.gi_store.specs.StoreView.{StoreView, IsWithin, problem_of};
 ghost use Rattle.gi_prop.specs.Attached.{Goes};
 ghost use Rattle.gi_model.specs.State.{Scope, Found, scope_assumed};
 ghost use Rattle.gi_scopes.specs.Under.{base_of, AreProblemKeys, AddsImplied, IsClash};
@@ -68,7 +68,7 @@ impl Kept {
 
     /// Begins a level with these assumptions, and adds what the clauses of the problem force. Why that conflicts, if it does.
     fn raise(&mut self, store: &Store, assumed: &[Lit]) -> Result<Option<Clash>, AllocError>
-        requires level { length self.old.trail.marks < 4294967295 }
+        requires level { length self.old.trail.level_starts < 4294967295 }
         requires within { IsWithin self.old.trail.vars assumed.now }
         requires goes { Goes self.old.prop (base_of store.now) self.old.trail }
         requires keys { AreProblemKeys self.old.prop (base_of store.now) }
@@ -103,7 +103,7 @@ pub(crate) fn listed_above(kept: &Option<Kept>, levels: &[Level]) -> Option<u32>
 
 /// What is left where the levels above this one are taken away. Takes no memory.
 pub(crate) fn cut(kept: Option<Kept>, level: u32) -> Option<Kept>
-    ensures built { (scopes : List Scope) (s : Held) → level ≤ length scopes → IsFor kept scopes s → IsFor result (take level scopes) s }
+    ensures built { (scopes : List Scope) (s : StoreView) → level ≤ length scopes → IsFor kept scopes s → IsFor result (take level scopes) s }
     ensures same { is_some result ≡ is_some kept }
 {
     let Some(kept) = kept else {

@@ -2,7 +2,7 @@
 //!
 //! The trail is kept between calls, with a level for each open scope:
 //!
-//!     places   0        marks[0]       marks[1]       length of the trail
+//!     places   0        starts[0]      starts[1]      length of the trail
 //!              |--------|--------------|--------------|
 //!     level    0        1              2
 //!              forced   assumptions    assumptions
@@ -28,8 +28,6 @@ mod outcome;
 mod scopes;
 mod short;
 mod steps;
-#[cfg(test)]
-mod tests;
 mod trace;
 
 pub use answers::{Reasoned, Tested};

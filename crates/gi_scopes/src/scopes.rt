@@ -1,11 +1,11 @@
 ghost use Rattle.std.specs.Prelude.{◌≡◌, ℕ, List, None, ◌<◌, ◌≤◌, ◌-◌, [], ◌∷◌, ◌++◌, length, take, Contains, IsTrue, ◌↔◌, IfOk, OnOk, OnErr, is_some};
 ghost use Rattle.gi_lit.specs.Problem.{Problem};
-ghost use Rattle.gi_store.specs.Held.{Held, problem_of, IsWithin};
+ghost use Rattle.gi_store.specs.StoreView.{StoreView, problem_of, IsWithin};
 ghost use Rattle.gi_lit.specs.Lists.{IsSublist};
 ghost use Rattle.gi_model.specs.State.{Scope, listed, failing, scope_assumed, scope_listed};
 ghost use Rattle.gi_scopes.specs.Listing.{AreNoted, Finds, Builds, Counts, GrowsLittle};
 ghost use Rattle.gi_scopes.specs.Open.{Open, AreReasoned, StillFail};
-ghost use Rattle.gi_scopes.specs.Answers.{Answers, Opens, KeepsTrail, Ticks, TicksFew, Tells};
+ghost use Rattle.gi_scopes.specs.Answers.{TellsTest, Opens, KeepsTrail, Ticks, TicksFew, TellsReasons};
 ghost use Rattle.gi_scopes.specs.Under.{base_of};
 ghost use Rattle.gi_scopes.specs.Built.{IsFor, kept_lits};
 
@@ -83,7 +83,7 @@ impl Scopes {
         requires open { IsWithin store.now.vars (scope_assumed self.old.scopes) }
         requires failing { StillFail (problem_of store.now) self.old.scopes }
         requires kept { IsFor self.old.kept self.old.scopes (base_of store.now) }
-        ensures answers { Answers (problem_of store.now) self.old.scopes assumed result }
+        ensures answers { TellsTest (problem_of store.now) self.old.scopes assumed result }
         ensures opens { Opens self.old assumed result self.new }
         ensures reasons { AreReasoned (problem_of store.now) self.old → AreReasoned (problem_of store.now) self.new }
         ensures kept { IsFor self.new.kept self.new.scopes (base_of store.now) }
@@ -200,7 +200,7 @@ impl Scopes {
         requires { 1 ≤ length self.old.scopes }
         ensures scopes { self.new.scopes ≡ take (length self.old.scopes - 1) self.old.scopes }
         ensures reasons { (p : Problem) → AreReasoned p self.old → AreReasoned p self.new }
-        ensures kept { (s : Held) → IsFor self.old.kept self.old.scopes s → IsFor self.new.kept self.new.scopes s }
+        ensures kept { (s : StoreView) → IsFor self.old.kept self.old.scopes s → IsFor self.new.kept self.new.scopes s }
         ensures keeps { is_some self.new.kept ≡ is_some self.old.kept }
     {
         let last = self.levels.len() - 1;
@@ -231,7 +231,7 @@ impl Scopes {
     /// The literals that imply a listed one together: the opposites of the other literals of the clause that implied it, each once, guards
     /// among them. `NotImplied` comes exactly where no open scope lists the literal.
     pub fn reasons(&self, alloc: Global, m: Lit) -> Reasoned
-        ensures { Tells self.now m result }
+        ensures { TellsReasons self.now m result }
     {
         let _count = self.reasons.len();
         match place_of(self.levels.as_slice(), m) {

@@ -1,8 +1,8 @@
 ghost use Rattle.std.specs.Prelude.{List, ◌≡◌, ◌≤◌, ◌<◌, ◌/◌, ℕ, false, true, length, replicate, slice_index_or, Contains, IfOk, IsTrue};
 ghost use Rattle.gi_lit.specs.Lists.{IsSublist};
 ghost use Rattle.gi_lit.specs.Closure.{IsFalsified};
-ghost use Rattle.gi_store.specs.Held.{IsWithin, problem_of};
-ghost use Rattle.gi_prop.specs.Assigned.{StandsAt};
+ghost use Rattle.gi_store.specs.StoreView.{IsWithin, problem_of};
+ghost use Rattle.gi_prop.specs.TrailView.{StandsAt};
 ghost use Rattle.gi_scopes.specs.Under.{base_of, IsImpliedAt, IsReached, AreReached};
 ghost use Rattle.gi_scopes.specs.Traced.{AreSeen, KeepsMarks, IsResolved, LeadsToFalse, IsPicked};
 

@@ -1,5 +1,5 @@
 use Rattle.std.proofs.Common.{arith}
-use Rattle.gi_store.specs.Held.{keys_of}
+use Rattle.gi_store.specs.StoreView.{keys_of}
 use Rattle.gi_scopes.specs.Under.{base_of}
 use Rattle.gi_scopes.proofs.Attaching.{key_is, attaching_free, attaching_more, attached_all, attached_base, holds_within}
 use Rattle.gi_scopes.proofs.Base.{keeps_base}

@@ -1,7 +1,7 @@
 use Rattle.std.proofs.Common.{Bool, Some, sym, subst}
 use Rattle.std.specs.List.{Contains}
 use Rattle.std.proofs.lemmas.List.Elements.{Contains-push}
-use Rattle.gi_prop.specs.Assigned.{Assigned, HasValue}
+use Rattle.gi_prop.specs.TrailView.{TrailView, HasValue}
 use Rattle.gi_scopes.specs.Under.{Adds}
 use Rattle.gi_scopes.proofs.Assuming.{adds_none, adds_one}
 use Rattle.gi_scopes.proofs.close.take_on.Goals as goal
@@ -16,4 +16,4 @@ pub returns-in-None-clause-adds : goal.returns-in-None-clause-adds
 returns-in-None-clause-adds c given a = subst (Adds given c.args.trail.now) (sym c.assign.ensures.added) (adds_one given c.args.trail.now c.args.l a)
 
 pub returns-in-None-clause-taken : goal.returns-in-None-clause-taken
-returns-in-None-clause-taken c t = subst (λ (s : Assigned). Contains s.lits c.args.l) (sym c.assign.ensures.added) (Contains-push c.args.trail.now.lits c.args.l)
+returns-in-None-clause-taken c t = subst (λ (s : TrailView). Contains s.lits c.args.l) (sym c.assign.ensures.added) (Contains-push c.args.trail.now.lits c.args.l)

@@ -2,7 +2,7 @@ use Rattle.std.proofs.Common.{◌≡◌, List, Bool, ℕ, length, ap, ◌∙◌,
 use Rattle.std.specs.List.{Contains}
 use Rattle.std.proofs.lemmas.List.{take_at}
 use Rattle.std.proofs.lemmas.Result.{IfOk-weaker}
-use Rattle.gi_store.specs.Held.{problem_of}
+use Rattle.gi_store.specs.StoreView.{problem_of}
 use Rattle.gi_scopes.specs.Under.{base_of}
 use Rattle.gi_scopes.specs.Traced.{Refutes, IsPicked}
 use Rattle.gi_scopes.proofs.Tracing.{lead_end, picked_own}

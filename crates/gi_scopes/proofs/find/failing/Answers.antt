@@ -5,7 +5,7 @@ use Rattle.gi_lit.specs.Literals.{opposite}
 use Rattle.gi_lit.specs.Closure.{Conflicts, IsFalsified}
 use Rattle.gi_lit.specs.Problem.{full}
 use Rattle.gi_lit.proofs.Distinct.{Contains-head}
-use Rattle.gi_store.specs.Held.{problem_of}
+use Rattle.gi_store.specs.StoreView.{problem_of}
 use Rattle.gi_scopes.specs.Under.{base_of, IsClash, IsFalseKey}
 use Rattle.gi_scopes.specs.Traced.{Refutes}
 use Rattle.gi_scopes.proofs.Tracing.{refuted_clause, refuted_literal}

@@ -1,9 +1,9 @@
 use Rattle.std.proofs.Common.{◌++◌, ◌∷◌, [], ◌≤◌, ◌/◌, ℕ, List, length, sym, ◌∙◌, subst}
 use Rattle.std.proofs.lemmas.List.Elements.{All-append}
 use Rattle.gi_lit.specs.Closure.{Conflicts}
-use Rattle.gi_lit.specs.Problem.{Problem, force, IsWellFormed}
-use Rattle.gi_store.specs.Held.{Held, IsWithin, problem_of}
-use Rattle.gi_prop.specs.Assigned.{Assigned}
+use Rattle.gi_lit.specs.Problem.{Problem, in_force, IsWellFormed}
+use Rattle.gi_store.specs.StoreView.{StoreView, IsWithin, problem_of}
+use Rattle.gi_prop.specs.TrailView.{TrailView}
 use Rattle.gi_model.specs.State.{Scope, Found, listed, scope_assumed, scope_listed}
 use Rattle.gi_scopes.specs.Under.{base_of}
 use Rattle.gi_scopes.specs.Built.{IsBuilt, IsStuck, HasReached, Rises, IsListedAbove}
@@ -186,7 +186,7 @@ returns-in_ok-listing-in-None-clause-little g c known =
     closed_little s wf scs assumed k h whole i.lits i.reasons.items l c.args.kept r known
 
 -- a conflict of the full clauses is one of the clauses in force
-stuck_in_force : (s : Held) (given : List ℕ) (t : Assigned) (c : Clash) → IsWellFormed (problem_of s) → IsWithin s.vars given → IsStuck s given t c → Conflicts (force (problem_of s) given) given
+stuck_in_force : (s : StoreView) (given : List ℕ) (t : TrailView) (c : Clash) → IsWellFormed (problem_of s) → IsWithin s.vars given → IsStuck s given t c → Conflicts (in_force (problem_of s) given) given
 stuck_in_force s given t (Opposite l) wf within h =
     opposite_in_force (problem_of s) wf given t.lits (under_of s given t h.reached) l h.clash.0 h.clash.1
 stuck_in_force s given t (Clause key) wf within h = conflict_in_force (problem_of s) wf given t.lits (under_of s given t h.reached) h.clash.clause h.clash.stands h.clash.falsified

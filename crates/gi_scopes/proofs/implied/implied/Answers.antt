@@ -5,7 +5,7 @@ use Rattle.std.proofs.lemmas.List.{take_at}
 use Rattle.gi_lit.specs.Closure.{IsDerivation}
 use Rattle.gi_lit.specs.Problem.{full, has, IsProblemVar}
 use Rattle.gi_lit.proofs.Vars.{lacks_none}
-use Rattle.gi_store.specs.Held.{problem_of}
+use Rattle.gi_store.specs.StoreView.{problem_of}
 use Rattle.gi_model.specs.State.{scope_listed}
 use Rattle.gi_scopes.specs.Under.{base_of}
 use Rattle.gi_scopes.specs.Listing.{IsListing, AreNoted}

@@ -1,5 +1,5 @@
 use Rattle.std.proofs.Common.{◌+◌, ◌*◌, take}
-use Rattle.gi_store.specs.Held.{problem_of}
+use Rattle.gi_store.specs.StoreView.{problem_of}
 use Rattle.gi_model.specs.State.{scope_listed}
 use Rattle.gi_scopes.proofs.Noting.{ListingTo}
 use Rattle.gi_scopes.proofs.implied.implied.Given as goal

@@ -1,9 +1,9 @@
 use Rattle.std.proofs.Common.{◌≡◌, ◌/◌, ℕ, List, take, get_or, sym, ap, ◌∙◌, subst, ◌≤◌, arith}
 use Rattle.std.specs.List.{All, Contains}
 use Rattle.std.proofs.lemmas.Result.{IfOk-weaker}
-use Rattle.gi_prop.specs.Assigned.{Assigned}
+use Rattle.gi_prop.specs.TrailView.{TrailView}
 use Rattle.gi_scopes.specs.Under.{base_of, IsImpliedAt}
-use Rattle.gi_store.specs.Held.{Held, Holds, IsLive, problem_of}
+use Rattle.gi_store.specs.StoreView.{StoreView, Holds, IsLive, problem_of}
 use Rattle.gi_scopes.specs.Open.{IsReasoned}
 use Rattle.gi_scopes.specs.Listing.{AreOthers}
 use Rattle.gi_lit.proofs.Literals.{var-opposite}
@@ -19,7 +19,7 @@ clause-requires c =
     let k : c.in-Some.key ≡ h.key = same_some c.in-Some.key h.key (sym c.in-Some.is ∙ reason_key (base_of c.args.store.now) c.args.trail.now c.args.at c.var.result c.reason.result h c.requires.at (c.var.ensures ∙ ap (λ n. n / 2) x) c.reason.ensures.assigned) in
     subst (IsLive c.args.store.now) (sym k) (held_live c.args.store.now h.key h.clause (base_holds c.args.store.now h.key h.clause h.held))
 
-own : (s : Held) (t : Assigned) (at : ℕ) (h : IsImpliedAt (base_of s) t at) (clause : List ℕ) (x : ℕ) (rs : List ℕ) → clause ≡ h.clause → x ≡ get_or t.lits at 0 → AreOthers clause x rs → AreOthers h.clause (get_or t.lits at 0) rs
+own : (s : StoreView) (t : TrailView) (at : ℕ) (h : IsImpliedAt (base_of s) t at) (clause : List ℕ) (x : ℕ) (rs : List ℕ) → clause ≡ h.clause → x ≡ get_or t.lits at 0 → AreOthers clause x rs → AreOthers h.clause (get_or t.lits at 0) rs
 own s t at h clause x rs e i o = subst (λ y. AreOthers h.clause y rs) i (subst (λ xs. AreOthers xs x rs) e o)
 
 pub returns-clause-reasons : goal.returns-clause-reasons

@@ -1,7 +1,7 @@
 use Rattle.std.proofs.Common.{Option, Some, None, sym, ap, subst, arith}
 use Rattle.std.specs.Result.{IfOk}
 use Rattle.std.proofs.lemmas.Result.{IfOk-weaker}
-use Rattle.gi_prop.specs.Assigned.{Assigned}
+use Rattle.gi_prop.specs.TrailView.{TrailView}
 use Rattle.gi_scopes.specs.Under.{base_of}
 use Rattle.gi_scopes.specs.Built.{IsFor, HasReached, Stays}
 use Rattle.gi_scopes.specs.declared.kept.Kept.{Kept}
@@ -16,7 +16,7 @@ pub returns-in_ok-grow-in-Some-clause-stays : goal.returns-in_ok-grow-in-Some-cl
 returns-in_ok-grow-in-Some-clause-stays c =
     let e = c.in_ok-grow-in-Some.ensures.ok in
     let n : Kept = record c.in-Some.kept { trail = c.grow.new.self } in
-    subst (λ (o : Option Kept). Stays o (Closed n)) (sym c.in-Some.is) (ap (λ (t : Assigned). t.lits) e, ap (λ (t : Assigned). t.marks) e)
+    subst (λ (o : Option Kept). Stays o (Closed n)) (sym c.in-Some.is) (ap (λ (t : TrailView). t.lits) e, ap (λ (t : TrailView). t.level_starts) e)
 
 pub returns-in_ok-grow-in-Some-clause-reached : goal.returns-in_ok-grow-in-Some-clause-reached
 returns-in_ok-grow-in-Some-clause-reached c =
@@ -24,6 +24,6 @@ returns-in_ok-grow-in-Some-clause-reached c =
     let k = c.in-Some.kept in
     let b : IsFor (Some c.in-Some.kept) c.args.levels.now (base_of s) = subst (λ (o : Option Kept). IsFor o c.args.levels.now (base_of s)) c.in-Some.is c.requires.kept in
     let e = c.in_ok-grow-in-Some.ensures.ok in (
-      built_grown (base_of s) c.args.levels.now c.in-Some.kept b.0 c.level-level.ensures.trail c.grow.new.self (ap (λ (t : Assigned). t.lits) e) (ap (λ (t : Assigned). t.reasons) e) (ap (λ (t : Assigned). t.marks) e) (c.grow.ensures.goes c.in-Some.kept.prop (base_of s) b.0.goes),
-      omega (arith, ap (λ (t : Assigned). t.vars) e, c.vars.ensures.value),
+      built_grown (base_of s) c.args.levels.now c.in-Some.kept b.0 c.level-level.ensures.trail c.grow.new.self (ap (λ (t : TrailView). t.lits) e) (ap (λ (t : TrailView). t.reasons) e) (ap (λ (t : TrailView). t.level_starts) e) (c.grow.ensures.goes c.in-Some.kept.prop (base_of s) b.0.goes),
+      omega (arith, ap (λ (t : TrailView). t.vars) e, c.vars.ensures.value),
     )

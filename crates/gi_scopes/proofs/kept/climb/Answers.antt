@@ -4,7 +4,7 @@ use Rattle.std.specs.Option.{IfNone, IfSome}
 use Rattle.std.proofs.lemmas.List.Elements.{Contains-append_left}
 use Rattle.gi_lit.specs.Closure.{IsClosed}
 use Rattle.gi_lit.specs.Problem.{full}
-use Rattle.gi_store.specs.Held.{problem_of}
+use Rattle.gi_store.specs.StoreView.{problem_of}
 use Rattle.gi_model.specs.State.{Scope, scope_assumed}
 use Rattle.gi_scopes.specs.Under.{base_of, IsClash}
 use Rattle.gi_scopes.specs.Built.{IsBuilt, IsStuck, HasReached, Stays}
@@ -46,7 +46,7 @@ returns-in-Some-clause-reached c f =
 pub returns-in-None-clause-rises : goal.returns-in-None-clause-rises
 returns-in-None-clause-rises c =
     let r = c.in_ok-raise-in-Closed.ensures.reaches in
-    rises_of c.args.kept c.in-Closed.kept c.raise.new.self (subst (Stays c.args.kept) c.in-Closed.is c.in_ok-kept.ensures.stays) r.marks r.more r.lits
+    rises_of c.args.kept c.in-Closed.kept c.raise.new.self (subst (Stays c.args.kept) c.in-Closed.is c.in_ok-kept.ensures.stays) r.level_starts r.more r.lits
 
 pub returns-in-Stuck-clause-rises : goal.returns-in-Stuck-clause-rises
 returns-in-Stuck-clause-rises c = rises_stuck c.args.kept c.in-Stuck.kept c.in-Stuck.clash

@@ -1,7 +1,7 @@
 use Rattle.std.proofs.Common.{◌≡◌, ◌<◌, Option, Some, List, length, take, refl, sym, ◌∙◌, subst, arith}
 use Rattle.std.proofs.lemmas.Bool.{lt-ltb}
 use Rattle.std.proofs.lemmas.List.{take_all}
-use Rattle.gi_prop.specs.Assigned.{cut_at}
+use Rattle.gi_prop.specs.TrailView.{cut_at}
 use Rattle.gi_model.specs.State.{Scope}
 use Rattle.gi_scopes.specs.Built.{IsFor}
 use Rattle.gi_scopes.specs.declared.kept.Kept.{Kept}
@@ -17,7 +17,7 @@ returns-then-level-clause-built c scopes s le h =
 pub returns-clause-built : goal.returns-clause-built
 returns-clause-built c scopes s le h =
     let b : IsFor (Some c.in-Some.kept) scopes s = subst (λ (o : Option Kept). IsFor o scopes s) c.in-Some.is h in
-    let lt : c.args.level < length c.in-Some.kept.trail.marks = omega (arith, c.level.ensures.value, c.if-level.false) in
-    let e : c.cancel_to.new.self ≡ cut_at c.args.level c.in-Some.kept.trail = c.cancel_to.ensures.after ∙ rw (lt-ltb c.args.level (length c.in-Some.kept.trail.marks) lt) refl in
+    let lt : c.args.level < length c.in-Some.kept.trail.level_starts = omega (arith, c.level.ensures.value, c.if-level.false) in
+    let e : c.cancel_to.new.self ≡ cut_at c.args.level c.in-Some.kept.trail = c.cancel_to.ensures.after ∙ rw (lt-ltb c.args.level (length c.in-Some.kept.trail.level_starts) lt) refl in
     let goes = c.cancel_to.ensures.goes c.in-Some.kept.prop s b.0.goes in
     (built_cut s scopes c.in-Some.kept b.0 c.level.ensures.trail c.args.level lt c.cancel_to.new.self e goes, covers_cut s scopes c.in-Some.kept b.0 c.level.ensures.trail c.args.level lt c.cancel_to.new.self e goes b.1)

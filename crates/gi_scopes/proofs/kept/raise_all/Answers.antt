@@ -3,7 +3,7 @@ use Rattle.std.specs.List.{All, Contains}
 use Rattle.std.specs.Option.{IfNone, IfSome}
 use Rattle.gi_lit.specs.Closure.{IsClosed}
 use Rattle.gi_lit.specs.Problem.{full}
-use Rattle.gi_store.specs.Held.{problem_of}
+use Rattle.gi_store.specs.StoreView.{problem_of}
 use Rattle.gi_model.specs.State.{Scope, scope_assumed}
 use Rattle.gi_scopes.specs.Under.{base_of, IsClash}
 use Rattle.gi_scopes.specs.declared.clash.Clash.{Clash}

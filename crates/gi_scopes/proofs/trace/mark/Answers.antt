@@ -1,5 +1,5 @@
 use Rattle.std.proofs.Common.{◌+◌, Bool, List, sym, ◌∙◌, subst, arith}
-use Rattle.gi_prop.specs.Assigned.{StandsAt, IsUnassigned}
+use Rattle.gi_prop.specs.TrailView.{StandsAt, IsUnassigned}
 use Rattle.gi_scopes.proofs.Tracing.{MarkedTo, marked_set, marked_skip, marked_all}
 use Rattle.gi_scopes.proofs.trace.mark.Goals as goal
 use Rattle.gi_scopes.proofs.trace.mark.Goals.{in-Some, in_default}

@@ -1,6 +1,6 @@
 use Rattle.std.proofs.Common.{◌≡◌, ◌/◌, ℕ, get_or, sym, ap, ◌∙◌, subst}
 use Rattle.std.specs.List.{Contains}
-use Rattle.gi_store.specs.Held.{Holds, IsLive}
+use Rattle.gi_store.specs.StoreView.{Holds, IsLive}
 use Rattle.gi_scopes.specs.Under.{base_of}
 use Rattle.gi_scopes.proofs.Attaching.{held_live, holds_within, reason_key, reason_none, implied_here, same_some, item_is}
 use Rattle.gi_scopes.proofs.Base.{base_holds, holds_full}

@@ -1,5 +1,5 @@
 use Rattle.std.proofs.Common.{◌≡◌, ◌+◌, ◌-◌, ◌<◌, length, ◌∙◌, subst, arith}
-use Rattle.gi_store.specs.Held.{problem_of}
+use Rattle.gi_store.specs.StoreView.{problem_of}
 use Rattle.gi_scopes.specs.Under.{base_of}
 use Rattle.gi_scopes.specs.Traced.{LeadsToFalse}
 use Rattle.gi_scopes.proofs.Tracing.{TracedTo, lead_start, traced_more}

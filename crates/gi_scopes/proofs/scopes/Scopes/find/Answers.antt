@@ -1,7 +1,7 @@
 use Rattle.std.proofs.Common.{◌≡◌, ◌++◌, [], ℕ, List, ap, ◌∙◌, subst, inr}
 use Rattle.std.proofs.lemmas.Result.{IfOk-weaker}
 use Rattle.gi_lit.specs.Problem.{Problem}
-use Rattle.gi_store.specs.Held.{problem_of}
+use Rattle.gi_store.specs.StoreView.{problem_of}
 use Rattle.gi_model.specs.State.{Scope, scope_assumed, scope_listed}
 use Rattle.gi_model.specs.Tests.{SomeFailed}
 use Rattle.gi_scopes.specs.Open.{Open}

@@ -1,6 +1,6 @@
 use Rattle.std.proofs.Common.{◌≡◌, ◌⊎◌, Option, [], length, sym, ap, subst, arith}
 use Rattle.std.specs.Option.{IsSome}
-use Rattle.gi_store.specs.Held.{problem_of}
+use Rattle.gi_store.specs.StoreView.{problem_of}
 use Rattle.gi_scopes.specs.Under.{base_of}
 use Rattle.gi_scopes.specs.Built.{IsFor, kept_lits}
 use Rattle.gi_scopes.specs.Open.{Open, AreReasoned}
