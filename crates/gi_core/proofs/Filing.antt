@@ -35,11 +35,11 @@ use Rattle.gi_model.proofs.Stepping.{step_refused, step_unread, step_dead, step_
 use Rattle.gi_scopes.specs.Open.{AreReasoned, Open}
 use Rattle.gi_scopes.specs.Laws.{MoreClausesKeepReasons}
 use Rattle.gi_core.specs.Content.{Content}
-use Rattle.gi_core.specs.Early.{early}
+use Rattle.gi_model.specs.Early.{early}
 use Rattle.gi_core.specs.Loads.{TakesFile}
-use Rattle.gi_core.specs.Task.{solve_of}
+use Rattle.gi_model.specs.Views.{solve_of}
 use Rattle.gi_core.specs.View.{state_of, Moves, IsBlank}
-use Rattle.gi_core.specs.declared.task.Task.{Task}
+use Rattle.gi_model.specs.declared.solve.Solve.{Solve as SolveCode}
 use Rattle.gi_core.specs.declared.machine.Machine.{Machine}
 use Rattle.gi_core.proofs.Moving.{moves_same, moves_dead, blank_backed, unkept}
 
@@ -67,7 +67,7 @@ load_unread s bytes f e = go (list_any (some_unusable s.problem) (file_clauses (
     go false false (Ok x) q = step_dead s (call.LoadCnf bytes) f q refl
 
 pub moves_unread : (m n : Machine) (bytes : List ℕ) (answer : Reply) → fits (call.LoadCnf bytes) ≡ true → early (state_of m) (call.LoadCnf bytes) ≡ None → answer ≡ reply.NoMemory → state_of n ≡ dead_state → IsBlank n.scopes → Moves m (call.LoadCnf bytes) answer n
-moves_unread m n bytes answer f e ea es all = record { step = rw (ea, es) (load_unread (state_of m) bytes f e); backed = λ b. blank_backed n.engine n.scopes all }
+moves_unread m n bytes answer f e ea es all = record { step = rw (ea, es) (load_unread (state_of m) bytes f e); backed = λ b. blank_backed n.solver n.scopes all }
 
 moves_refused : (m : Machine) (bytes : List ℕ) (r : Refusal) → fits (call.LoadCnf bytes) ≡ true → refuses (state_of m) (call.LoadCnf bytes) ≡ Some r → Moves m (call.LoadCnf bytes) (reply.Refused r) m
 moves_refused m bytes r f q = moves_same m (call.LoadCnf bytes) (reply.Refused r) (step_refused (state_of m) (call.LoadCnf bytes) r f q)
@@ -82,7 +82,7 @@ unfolding loaded
 moves_fault m bytes x k f e h =
     let s = state_of m in
     let r : Option Refusal = Some (refusal.Payload x.line 0 (payload.Cnf x.code)) in
-    moves_refused m bytes (refusal.Payload x.line 0 (payload.Cnf x.code)) f (load_refuses s bytes e ∙ ap (file_refusal s) h.first ∙ ap (λ (b : Bool). cond b (Some refusal.Limit) r) (not_past m.engine.problem k.within))
+    moves_refused m bytes (refusal.Payload x.line 0 (payload.Cnf x.code)) f (load_refuses s bytes e ∙ ap (file_refusal s) h.first ∙ ap (λ (b : Bool). cond b (Some refusal.Limit) r) (not_past m.solver.problem k.within))
 
 -- a file's literals, as the problem counts them
 pub lits_counted : (cs : List (List ℕ)) → literals_in (map Clause cs) ≡ sum_by length cs
@@ -141,35 +141,35 @@ file_refuses s v bytes w g is e =
     load_refuses s bytes e ∙ ap (file_refusal s) (file_read v bytes is)
     ∙ ap (λ (b : Bool). cond (list_any (some_unusable s.problem) v.clauses) (Some refusal.Lit) (cond b (Some refusal.Limit) None)) (past_short s.problem v g w.vars)
 
-file_tested : (m : Machine) (v : Cnf) (bytes : List ℕ) (bad short : Bool) → IsKept (state_of m) → IsGood v → list_any (some_unusable m.engine.problem) v.clauses ≡ bad → is_short m.engine.problem v.clauses ≡ short → IsCnf v bytes → early (state_of m) (call.LoadCnf bytes) ≡ None
+file_tested : (m : Machine) (v : Cnf) (bytes : List ℕ) (bad short : Bool) → IsKept (state_of m) → IsGood v → list_any (some_unusable m.solver.problem) v.clauses ≡ bad → is_short m.solver.problem v.clauses ≡ short → IsCnf v bytes → early (state_of m) (call.LoadCnf bytes) ≡ None
     → refuses (state_of m) (call.LoadCnf bytes) ≡ cond bad (Some refusal.Lit) (cond short (Some refusal.Limit) None)
 file_tested m v bytes bad short k g b t is e =
     file_refuses (state_of m) v bytes k.within g is e
-    ∙ ap (λ (x : Bool). cond x (Some refusal.Lit) (cond (is_short m.engine.problem v.clauses) (Some refusal.Limit) None)) b
+    ∙ ap (λ (x : Bool). cond x (Some refusal.Lit) (cond (is_short m.solver.problem v.clauses) (Some refusal.Limit) None)) b
     ∙ ap (λ (x : Bool). cond bad (Some refusal.Lit) (cond x (Some refusal.Limit) None)) t
 
-pub take_lit : (m : Machine) (v : Cnf) → IsKept (state_of m) → IsGood v → list_any (some_unusable m.engine.problem) v.clauses ≡ true → TakesFile m v (reply.Refused refusal.Lit) m
-take_lit m v k g bad bytes is f e = moves_refused m bytes refusal.Lit f (file_tested m v bytes true (is_short m.engine.problem v.clauses) k g bad refl is e)
+pub take_lit : (m : Machine) (v : Cnf) → IsKept (state_of m) → IsGood v → list_any (some_unusable m.solver.problem) v.clauses ≡ true → TakesFile m v (reply.Refused refusal.Lit) m
+take_lit m v k g bad bytes is f e = moves_refused m bytes refusal.Lit f (file_tested m v bytes true (is_short m.solver.problem v.clauses) k g bad refl is e)
 
-pub take_limit : (m : Machine) (v : Cnf) → IsKept (state_of m) → IsGood v → list_any (some_unusable m.engine.problem) v.clauses ≡ false → is_short m.engine.problem v.clauses ≡ true → TakesFile m v (reply.Refused refusal.Limit) m
+pub take_limit : (m : Machine) (v : Cnf) → IsKept (state_of m) → IsGood v → list_any (some_unusable m.solver.problem) v.clauses ≡ false → is_short m.solver.problem v.clauses ≡ true → TakesFile m v (reply.Refused refusal.Limit) m
 take_limit m v k g good short bytes is f e = moves_refused m bytes refusal.Limit f (file_tested m v bytes false true k g good short is e)
 
-pub take_dead : (m n : Machine) (v : Cnf) (answer : Reply) → IsKept (state_of m) → IsGood v → list_any (some_unusable m.engine.problem) v.clauses ≡ false → is_short m.engine.problem v.clauses ≡ false → answer ≡ reply.NoMemory → state_of n ≡ dead_state → IsBlank n.scopes → TakesFile m v answer n
+pub take_dead : (m n : Machine) (v : Cnf) (answer : Reply) → IsKept (state_of m) → IsGood v → list_any (some_unusable m.solver.problem) v.clauses ≡ false → is_short m.solver.problem v.clauses ≡ false → answer ≡ reply.NoMemory → state_of n ≡ dead_state → IsBlank n.scopes → TakesFile m v answer n
 take_dead m n v answer k g good room ea es all bytes is f e = moves_dead m n (call.LoadCnf bytes) answer f (file_tested m v bytes false false k g good room is e) refl ea es all
 
-pub take_done : (law : MoreClausesKeepReasons) (m : Machine) (c : Content) (o : Open) (t : Task) (v : Cnf) → IsKept (state_of m) → IsGood v → list_any (some_unusable m.engine.problem) v.clauses ≡ false → is_short m.engine.problem v.clauses ≡ false
-    → c ≡ record m.engine { problem = with_clauses v.clauses (grown v.vars m.engine.problem); base = c.base } → o ≡ unkept m.scopes → solve_of t ≡ edited (solve_of m.task) → TakesFile m v (reply.LoadedCnf v.vars (length v.clauses)) (record m { engine = c; scopes = o; task = t })
+pub take_done : (law : MoreClausesKeepReasons) (m : Machine) (c : Content) (o : Open) (t : SolveCode) (v : Cnf) → IsKept (state_of m) → IsGood v → list_any (some_unusable m.solver.problem) v.clauses ≡ false → is_short m.solver.problem v.clauses ≡ false
+    → c ≡ record m.solver { problem = with_clauses v.clauses (grown v.vars m.solver.problem); base = c.base } → o ≡ unkept m.scopes → solve_of t ≡ edited (solve_of m.solve) → TakesFile m v (reply.LoadedCnf v.vars (length v.clauses)) (record m { solver = c; scopes = o; solve = t })
 unfolding after
 take_done law m c o t v k g good room ec eo et bytes is f e =
     let s = state_of m in
     let answer = reply.LoadedCnf v.vars (length v.clauses) in
     let read = file_read v bytes is in
-    let p = grown v.vars m.engine.problem in
+    let p = grown v.vars m.solver.problem in
     let q = with_clauses v.clauses p in
-    let usable = clauses_usable_more v.vars m.engine.problem v.clauses k.clauses (clauses_usable m.engine.problem v.clauses good) in
-    let more = (clauses_added v.clauses p (IsWellFormed-grown v.vars m.engine.problem k.clauses) usable).0 in
-    let new : state_of (record m { engine = c; scopes = o; task = t }) ≡ with_problem q s = rw (ec, eo, et) refl in
+    let usable = clauses_usable_more v.vars m.solver.problem v.clauses k.clauses (clauses_usable m.solver.problem v.clauses good) in
+    let more = (clauses_added v.clauses p (IsWellFormed-grown v.vars m.solver.problem k.clauses) usable).0 in
+    let new : state_of (record m { solver = c; scopes = o; solve = t }) ≡ with_problem q s = rw (ec, eo, et) refl in
     record {
-      step = step_done s (call.LoadCnf bytes) answer (state_of (record m { engine = c; scopes = o; task = t })) f (file_tested m v bytes false false k g good room is e) (ap loaded_reply (sym read)) (new ∙ ap (λ (r : Result File CnfFault). with_problem (with_file r m.engine.problem) s) (sym read));
-      backed = λ b. rw eo (record { reasoned = subst (λ (p : Problem). AreReasoned p (unkept m.scopes)) (sym (ap (λ (x : Content). x.problem) ec)) (law m.engine.problem q m.scopes (λ d h. more.full d ((grows_grown v.vars m.engine.problem).full d h)) b.reasoned); served = tt });
+      step = step_done s (call.LoadCnf bytes) answer (state_of (record m { solver = c; scopes = o; solve = t })) f (file_tested m v bytes false false k g good room is e) (ap loaded_reply (sym read)) (new ∙ ap (λ (r : Result File CnfFault). with_problem (with_file r m.solver.problem) s) (sym read));
+      backed = λ b. rw eo (record { reasoned = subst (λ (p : Problem). AreReasoned p (unkept m.scopes)) (sym (ap (λ (x : Content). x.problem) ec)) (law m.solver.problem q m.scopes (λ d h. more.full d ((grows_grown v.vars m.solver.problem).full d h)) b.reasoned); served = tt });
     }

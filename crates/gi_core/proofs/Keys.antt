@@ -7,13 +7,13 @@ use Rattle.std.proofs.lemmas.List.Elements.{Contains-append_left, Contains-appen
 use Rattle.gi_lit.specs.Lists.{IsDistinct}
 use Rattle.gi_lit.proofs.Distinct.{Contains-cons_cases}
 use Rattle.gi_lit.specs.Problem.{negatives}
-use Rattle.gi_store.specs.Held.{Entry, Held, known_of, full_entry, entries, keys_of, at_place, Holds, IsLive, Keeps, with_plain, with_under, without_guard_of, trimmed}
+use Rattle.gi_store.specs.StoreView.{Entry, StoreView, known_of, full_entry, entries, keys_of, at_place, Holds, IsLive, Keeps, with_plain, with_under, without_guard_of, trimmed}
 use Rattle.gi_store.proofs.Lists.{Contains-head, Contains-insert}
 use Rattle.gi_store.proofs.Reading.{get_right}
 use Rattle.gi_store.proofs.Entries.{under_split}
 use Rattle.gi_prop.specs.Attached.{IsAttached, Attaches, Detaches}
 use Rattle.gi_cdcl.specs.Laws.{EditsKeepSearches}
-use Rattle.gi_cdcl.specs.Searching.{Searching, GoesWith, HasAll}
+use Rattle.gi_cdcl.specs.Searching.{Searching, MatchesStore, HasAll}
 use Rattle.gi_core.specs.Joined.{IsJoined, AreAttached, HasKeys, keys}
 
 abbrev pub key_of : Entry → ℕ
@@ -71,95 +71,95 @@ has_less s t xs ys e h d =
       distinct = subst IsDistinct (sym (map-append key_of xs ys)) (IsDistinct-without (keys xs) (keys ys) e.key u);
     }
 
-pub has_all : (s : Searching) (h : Held) → HasAll s h → AreAttached s (keys_of h)
+pub has_all : (s : Searching) (h : StoreView) → HasAll s h → AreAttached s (keys_of h)
 has_all s h a = record { each = λ k. (a.only k, a.all k) }
 
-pub all_has : (s : Searching) (h : Held) → AreAttached s (keys_of h) → HasAll s h
+pub all_has : (s : Searching) (h : StoreView) → AreAttached s (keys_of h) → HasAll s h
 all_has s h a = record { all = λ k l. (a.each k).1 l; only = λ k i. (a.each k).0 i }
 
 -- a store with other clauses, none of them new and none of them changed
-pub joined_after : (law : EditsKeepSearches) (s : Searching) (old new : Held) → GoesWith s old → Keeps old new → AreAttached s (keys_of new) → IsJoined s new
+pub joined_after : (law : EditsKeepSearches) (s : Searching) (old new : StoreView) → MatchesStore s old → Keeps old new → AreAttached s (keys_of new) → IsJoined s new
 joined_after law s old new g k a = record { goes = law s old new g k (λ i c. (a.each i).0 c); all = all_has s new a }
 
 -- with one clause more
-plain_split : (key : ℕ) (c : List ℕ) (h : Held) → entries (with_plain key c h) ≡ h.plain ++ record { key = key; lits = c } ∷ (map full_entry h.groups ++ h.learnt)
+plain_split : (key : ℕ) (c : List ℕ) (h : StoreView) → entries (with_plain key c h) ≡ h.plain ++ record { key = key; lits = c } ∷ (map full_entry h.groups ++ h.learnt)
 plain_split key c h = append_assoc h.plain (record { key = key; lits = c } ∷ []) (map full_entry h.groups ++ h.learnt)
 
-pub attached_plain : (s t : Searching) (h : Held) (key : ℕ) (c : List ℕ) → AreAttached s (keys_of h) → Attaches key s.attached t.attached → AreAttached t (keys_of (with_plain key c h))
+pub attached_plain : (s t : Searching) (h : StoreView) (key : ℕ) (c : List ℕ) → AreAttached s (keys_of h) → Attaches key s.attached t.attached → AreAttached t (keys_of (with_plain key c h))
 attached_plain s t h key c a e =
     let r : List Entry = map full_entry h.groups ++ h.learnt in
     let x : Entry = record { key = key; lits = c } in
     subst (AreAttached t) (sym (ap keys (plain_split key c h) ∙ keys_split h.plain r x)) (attached_more s t (keys h.plain) (keys r) key (subst (AreAttached s) (map-append key_of h.plain r) a) e)
 
-pub attached_under : (s t : Searching) (h : Held) (key : ℕ) (gs c : List ℕ) → AreAttached s (keys_of h) → Attaches key s.attached t.attached → AreAttached t (keys_of (with_under key gs c h))
+pub attached_under : (s t : Searching) (h : StoreView) (key : ℕ) (gs c : List ℕ) → AreAttached s (keys_of h) → Attaches key s.attached t.attached → AreAttached t (keys_of (with_under key gs c h))
 attached_under s t h key gs c a e =
     let r : List Entry = h.plain ++ map full_entry h.groups in
     let x : Entry = record { key = key; lits = c ++ negatives gs } in
     subst (AreAttached t) (sym (ap keys (under_split key gs c h) ∙ keys_split r h.learnt x)) (attached_more s t (keys r) (keys h.learnt) key (subst (AreAttached s) (ap keys (sym (append_assoc h.plain (map full_entry h.groups) h.learnt)) ∙ map-append key_of r h.learnt) a) e)
 
-pub live_plain : (h : Held) (key : ℕ) (c : List ℕ) (k : ℕ) → IsLive h k → IsLive (with_plain key c h) k
+pub live_plain : (h : StoreView) (key : ℕ) (c : List ℕ) (k : ℕ) → IsLive h k → IsLive (with_plain key c h) k
 live_plain h key c k l =
     let r : List Entry = map full_entry h.groups ++ h.learnt in
     subst (λ ks. Contains ks k) (sym (ap keys (plain_split key c h) ∙ keys_split h.plain r (record { key = key; lits = c }))) (Contains-skip (keys h.plain) (keys r) key k (subst (λ ks. Contains ks k) (map-append key_of h.plain r) l))
 
-pub live_under : (h : Held) (key : ℕ) (gs c : List ℕ) (k : ℕ) → IsLive h k → IsLive (with_under key gs c h) k
+pub live_under : (h : StoreView) (key : ℕ) (gs c : List ℕ) (k : ℕ) → IsLive h k → IsLive (with_under key gs c h) k
 live_under h key gs c k l =
     let r : List Entry = h.plain ++ map full_entry h.groups in
     subst (λ ks. Contains ks k) (sym (ap keys (under_split key gs c h) ∙ keys_split r h.learnt (record { key = key; lits = c ++ negatives gs }))) (Contains-skip (keys r) (keys h.learnt) key k (subst (λ ks. Contains ks k) (ap keys (sym (append_assoc h.plain (map full_entry h.groups) h.learnt)) ∙ map-append key_of r h.learnt) l))
 
-pub entry_count : (h : Held) → length (entries h) ≡ length h.plain + length h.groups + length h.learnt
+pub entry_count : (h : StoreView) → length (entries h) ≡ length h.plain + length h.groups + length h.learnt
 entry_count h = omega (arith, length-append h.plain (map full_entry h.groups ++ h.learnt), length-append (map full_entry h.groups) h.learnt, length-map h.groups full_entry)
 
 -- without the first so many learnt clauses
-abbrev pub later : Held → ℕ → List Entry
+abbrev pub later : StoreView → ℕ → List Entry
 later h i = (h.plain ++ map full_entry h.groups) ++ drop i h.learnt
 
-pub later_start : (s : Searching) (h : Held) → HasAll s h → IsDistinct (keys_of h) → HasKeys s (later h 0)
+pub later_start : (s : Searching) (h : StoreView) → HasAll s h → IsDistinct (keys_of h) → HasKeys s (later h 0)
 later_start s h a d = let e : entries h ≡ later h 0 = sym (append_assoc h.plain (map full_entry h.groups) h.learnt) in subst (HasKeys s) e (record { attached = has_all s h a; distinct = d })
 
-later_now : (h : Held) (i : ℕ) (e : Entry) → i < length h.learnt → e ≡ get_or h.learnt i e → later h i ≡ (h.plain ++ map full_entry h.groups) ++ e ∷ drop (i + 1) h.learnt
+later_now : (h : StoreView) (i : ℕ) (e : Entry) → i < length h.learnt → e ≡ get_or h.learnt i e → later h i ≡ (h.plain ++ map full_entry h.groups) ++ e ∷ drop (i + 1) h.learnt
 later_now h i e lt q = ap (λ r. (h.plain ++ map full_entry h.groups) ++ r) (drop-cons h.learnt i e lt ∙ ap (λ x. x ∷ drop (suc i) h.learnt) (sym q) ∙ rw add-one refl)
 
-pub later_attached : (s : Searching) (h : Held) (i : ℕ) (e : Entry) → i < length h.learnt → e ≡ get_or h.learnt i e → HasKeys s (later h i) → IsAttached s.attached e.key
+pub later_attached : (s : Searching) (h : StoreView) (i : ℕ) (e : Entry) → i < length h.learnt → e ≡ get_or h.learnt i e → HasKeys s (later h i) → IsAttached s.attached e.key
 later_attached s h i e lt q k =
     let r : List Entry = h.plain ++ map full_entry h.groups in
     let a = subst (HasKeys s) (later_now h i e lt q) k in
     ((subst (AreAttached s) (keys_split r (drop (i + 1) h.learnt) e) a.attached).each e.key).1 (Contains-middle (keys r) (keys (drop (i + 1) h.learnt)) e.key)
 
-pub later_drop : (s t : Searching) (h : Held) (i : ℕ) (e : Entry) → i < length h.learnt → e ≡ get_or h.learnt i e → HasKeys s (later h i) → Detaches e.key s.attached t.attached → HasKeys t (later h (i + 1))
+pub later_drop : (s t : Searching) (h : StoreView) (i : ℕ) (e : Entry) → i < length h.learnt → e ≡ get_or h.learnt i e → HasKeys s (later h i) → Detaches e.key s.attached t.attached → HasKeys t (later h (i + 1))
 later_drop s t h i e lt q k d = has_less s t (h.plain ++ map full_entry h.groups) (drop (i + 1) h.learnt) e (subst (HasKeys s) (later_now h i e lt q) k) d
 
-pub later_end : (s : Searching) (h : Held) → HasKeys s (later h (length h.learnt / 2)) → AreAttached s (keys_of (trimmed h))
+pub later_end : (s : Searching) (h : StoreView) → HasKeys s (later h (length h.learnt / 2)) → AreAttached s (keys_of (trimmed h))
 later_end s h k = subst (AreAttached s) (ap keys (append_assoc h.plain (map full_entry h.groups) (drop (length h.learnt / 2) h.learnt))) k.attached
 
 -- the store grows, and then takes a clause
-pub live_grown : (s : Searching) (h h1 : Held) (n : ℕ) → IsJoined s h → h1 ≡ record h { vars = n } → (k : ℕ) → IsAttached s.attached k → IsLive h1 k
-live_grown s h h1 n j e k a = subst (λ (x : Held). IsLive x k) (sym e) (j.all.only k a)
+pub live_grown : (s : Searching) (h h1 : StoreView) (n : ℕ) → IsJoined s h → h1 ≡ record h { vars = n } → (k : ℕ) → IsAttached s.attached k → IsLive h1 k
+live_grown s h h1 n j e k a = subst (λ (x : StoreView). IsLive x k) (sym e) (j.all.only k a)
 
-pub put_goes : (law : EditsKeepSearches) (s : Searching) (h h1 h2 : Held) (n key : ℕ) (c : List ℕ) → IsJoined s h → h1 ≡ record h { vars = n } → Keeps h h1 → h2 ≡ with_plain key c h1 → Keeps h1 h2 → GoesWith s h2
+pub put_goes : (law : EditsKeepSearches) (s : Searching) (h h1 h2 : StoreView) (n key : ℕ) (c : List ℕ) → IsJoined s h → h1 ≡ record h { vars = n } → Keeps h h1 → h2 ≡ with_plain key c h1 → Keeps h1 h2 → MatchesStore s h2
 put_goes law s h h1 h2 n key c j e1 k1 e2 k2 =
     law s h1 h2 (law s h h1 j.goes k1 (live_grown s h h1 n j e1)) k2
-    (λ k a. subst (λ (x : Held). IsLive x k) (sym e2) (live_plain h1 key c k (live_grown s h h1 n j e1 k a)))
+    (λ k a. subst (λ (x : StoreView). IsLive x k) (sym e2) (live_plain h1 key c k (live_grown s h h1 n j e1 k a)))
 
-pub put_joined : (s t : Searching) (h h1 h2 : Held) (n key : ℕ) (c : List ℕ) → IsJoined s h → h1 ≡ record h { vars = n } → h2 ≡ with_plain key c h1 → Attaches key s.attached t.attached → GoesWith t h2 → IsJoined t h2
+pub put_joined : (s t : Searching) (h h1 h2 : StoreView) (n key : ℕ) (c : List ℕ) → IsJoined s h → h1 ≡ record h { vars = n } → h2 ≡ with_plain key c h1 → Attaches key s.attached t.attached → MatchesStore t h2 → IsJoined t h2
 put_joined s t h h1 h2 n key c j e1 e2 a g =
     let e = sym (e2 ∙ ap (with_plain key c) e1) in
     record {
       goes = g;
-      all = all_has t h2 (subst (λ (x : Held). AreAttached t (keys_of x)) e (attached_plain s t (record h { vars = n }) key c (has_all s h j.all) a));
+      all = all_has t h2 (subst (λ (x : StoreView). AreAttached t (keys_of x)) e (attached_plain s t (record h { vars = n }) key c (has_all s h j.all) a));
     }
 
-pub under_goes : (law : EditsKeepSearches) (s : Searching) (h h1 h2 : Held) (n key : ℕ) (gs c : List ℕ) → IsJoined s h → h1 ≡ record h { vars = n } → Keeps h h1 → h2 ≡ with_under key gs c h1 → Keeps h1 h2 → GoesWith s h2
+pub under_goes : (law : EditsKeepSearches) (s : Searching) (h h1 h2 : StoreView) (n key : ℕ) (gs c : List ℕ) → IsJoined s h → h1 ≡ record h { vars = n } → Keeps h h1 → h2 ≡ with_under key gs c h1 → Keeps h1 h2 → MatchesStore s h2
 under_goes law s h h1 h2 n key gs c j e1 k1 e2 k2 =
     law s h1 h2 (law s h h1 j.goes k1 (live_grown s h h1 n j e1)) k2
-    (λ k a. subst (λ (x : Held). IsLive x k) (sym e2) (live_under h1 key gs c k (live_grown s h h1 n j e1 k a)))
+    (λ k a. subst (λ (x : StoreView). IsLive x k) (sym e2) (live_under h1 key gs c k (live_grown s h h1 n j e1 k a)))
 
-pub under_joined : (s t : Searching) (h h1 h2 : Held) (n key : ℕ) (gs c : List ℕ) → IsJoined s h → h1 ≡ record h { vars = n } → h2 ≡ with_under key gs c h1 → Attaches key s.attached t.attached → GoesWith t h2 → IsJoined t h2
+pub under_joined : (s t : Searching) (h h1 h2 : StoreView) (n key : ℕ) (gs c : List ℕ) → IsJoined s h → h1 ≡ record h { vars = n } → h2 ≡ with_under key gs c h1 → Attaches key s.attached t.attached → MatchesStore t h2 → IsJoined t h2
 under_joined s t h h1 h2 n key gs c j e1 e2 a w =
     let e = sym (e2 ∙ ap (with_under key gs c) e1) in
     record {
       goes = w;
-      all = all_has t h2 (subst (λ (x : Held). AreAttached t (keys_of x)) e (attached_under s t (record h { vars = n }) key gs c (has_all s h j.all) a));
+      all = all_has t h2 (subst (λ (x : StoreView). AreAttached t (keys_of x)) e (attached_under s t (record h { vars = n }) key gs c (has_all s h j.all) a));
     }
 
 -- the entry whose key was read at a place
@@ -177,10 +177,10 @@ got (x ∷ xs) (suc i) key q = let r = got xs i key q in record { entry = r.entr
 at_some : {X : Type 0} (xs : List X) (m i : ℕ) → m ≡ i + 1 → at_place xs m ≡ slice_get xs i
 at_some xs m i e = ap (λ b. cond b None (slice_get xs (m - 1))) (ne_eqb m 0 (omega arith)) ∙ ap (slice_get xs) (let q : m - 1 ≡ i = omega arith in q)
 
-pub got_any : (h : Held) (n i key : ℕ) → n ≡ i + 1 → Some key ≡ at_place (keys_of h) n → Got (entries h) i key
+pub got_any : (h : StoreView) (n i key : ℕ) → n ≡ i + 1 → Some key ≡ at_place (keys_of h) n → Got (entries h) i key
 got_any h n i key e q = got (entries h) i key (q ∙ at_some (keys_of h) n i e)
 
-pub got_learnt : (h : Held) (n i key : ℕ) → n ≡ length h.plain + length h.groups → Some key ≡ at_place (keys_of h) (n + (i + 1)) → Got h.learnt i key
+pub got_learnt : (h : StoreView) (n i key : ℕ) → n ≡ length h.plain + length h.groups → Some key ≡ at_place (keys_of h) (n + (i + 1)) → Got h.learnt i key
 got_learnt h n i key e q =
     let front : List Entry = h.plain ++ map full_entry h.groups in
     let long : length (keys front) ≡ n = length-map front key_of ∙ length-append h.plain (map full_entry h.groups) ∙ ap (λ m. length h.plain + m) (length-map h.groups full_entry) ∙ sym e in
@@ -189,20 +189,20 @@ got_learnt h n i key e q =
     got h.learnt i key (q ∙ at_some (keys_of h) (n + (i + 1)) (n + i) (omega arith) ∙ ap (λ (ks : List ℕ). slice_get ks (n + i)) split ∙ get_right (keys front) (keys h.learnt) (n + i) (rw long (omega arith)) ∙ ap (slice_get (keys h.learnt)) back)
 
 -- the clause that was read for it
-pub got_clause : (h : Held) (i key : ℕ) (clause : List ℕ) (e : Got (entries h) i key) → ((c : List ℕ) → Holds h key c → clause ≡ c) → clause ≡ e.entry.lits
+pub got_clause : (h : StoreView) (i key : ℕ) (clause : List ℕ) (e : Got (entries h) i key) → ((c : List ℕ) → Holds h key c → clause ≡ c) → clause ≡ e.entry.lits
 got_clause h i key clause e only = only e.entry.lits (subst (λ (k : ℕ). Contains (entries h) (let x : Entry = record { key = k; lits = e.entry.lits } in x)) e.key_is (i, e.within, sym e.is))
 
-pub count_all : (h : Held) (a b i : ℕ) → a ≡ length h.plain + length h.groups → b ≡ length (known_of h) → a + b ≤ i → length (entries h) ≤ i
+pub count_all : (h : StoreView) (a b i : ℕ) → a ≡ length h.plain + length h.groups → b ≡ length (known_of h) → a + b ≤ i → length (entries h) ≤ i
 count_all h a b i p q le = omega (arith, entry_count h, length-map h.learnt (λ (e : Entry). e.lits))
 
 -- after a guard was dropped, and after a trim
-pub dropped_joined : (law : EditsKeepSearches) (s t : Searching) (h h1 : Held) (g : ℕ) → IsJoined s h → ((k : Held) → GoesWith s k → GoesWith t k) → AreAttached t (keys_of (without_guard_of g h)) → h1 ≡ without_guard_of g h → Keeps h h1 → IsJoined t h1
+pub dropped_joined : (law : EditsKeepSearches) (s t : Searching) (h h1 : StoreView) (g : ℕ) → IsJoined s h → ((k : StoreView) → MatchesStore s k → MatchesStore t k) → AreAttached t (keys_of (without_guard_of g h)) → h1 ≡ without_guard_of g h → Keeps h h1 → IsJoined t h1
 dropped_joined law s t h h1 g j goes a e k =
-    joined_after law t h h1 (goes h j.goes) k (subst (λ (x : Held). AreAttached t (keys_of x)) (sym e) a)
+    joined_after law t h h1 (goes h j.goes) k (subst (λ (x : StoreView). AreAttached t (keys_of x)) (sym e) a)
 
-pub trimmed_joined : (law : EditsKeepSearches) (s t : Searching) (h h1 : Held) → IsJoined s h → ((k : Held) → GoesWith s k → GoesWith t k) → AreAttached t (keys_of (trimmed h)) → h1 ≡ trimmed h → Keeps h h1 → IsJoined t h1
+pub trimmed_joined : (law : EditsKeepSearches) (s t : Searching) (h h1 : StoreView) → IsJoined s h → ((k : StoreView) → MatchesStore s k → MatchesStore t k) → AreAttached t (keys_of (trimmed h)) → h1 ≡ trimmed h → Keeps h h1 → IsJoined t h1
 trimmed_joined law s t h h1 j goes a e k =
-    joined_after law t h h1 (goes h j.goes) k (subst (λ (x : Held). AreAttached t (keys_of x)) (sym e) a)
+    joined_after law t h h1 (goes h j.goes) k (subst (λ (x : StoreView). AreAttached t (keys_of x)) (sym e) a)
 
 -- there is a key at each place
 none_past : (xs : List ℕ) (i : ℕ) → None ≡ slice_get xs i → length xs ≤ i
@@ -210,7 +210,7 @@ none_past [] i q = omega arith
 none_past (x ∷ xs) zero q = absurd cc
 none_past (x ∷ xs) (suc i) q = let h = none_past xs i q in omega arith
 
-pub learnt_there : (h : Held) (n i : ℕ) → n ≡ length h.plain + length h.groups → None ≡ at_place (keys_of h) (n + (i + 1)) → length h.learnt ≤ i
+pub learnt_there : (h : StoreView) (n i : ℕ) → n ≡ length h.plain + length h.groups → None ≡ at_place (keys_of h) (n + (i + 1)) → length h.learnt ≤ i
 learnt_there h n i e q =
     let le = none_past (keys_of h) (n + i) (q ∙ at_some (keys_of h) (n + (i + 1)) (n + i) (omega arith)) in
     omega (arith, length-map (entries h) key_of, entry_count h)

@@ -10,7 +10,7 @@ use Rattle.gi_lit.specs.Lists.{IsDistinct}
 use Rattle.gi_lit.specs.Problem.{Problem, IsPlain, IsGroup, IsProblemVar, names, negatives}
 use Rattle.gi_lit.proofs.Lists.{Contains-first, Contains-later, Contains-map, Contains-unmap}
 use Rattle.gi_lit.proofs.Vars.{var_facts}
-use Rattle.gi_store.specs.Held.{Entry, GroupEntry, Held, problem_of, full_entry, entries, keys_of, without_guard_of}
+use Rattle.gi_store.specs.StoreView.{Entry, GroupEntry, StoreView, problem_of, full_entry, entries, keys_of, without_guard_of}
 use Rattle.gi_store.specs.Laws.{EntriesAreLeft}
 use Rattle.gi_store.specs.Whole.{IsWhole}
 use Rattle.gi_store.proofs.Lists.{Contains-take}
@@ -50,7 +50,7 @@ looked_attached s g es m i e p lt q h =
     let a = subst (HasKeys s) (looked_now g es m i e p lt q) h in
     ((subst (AreAttached s) (keys_split (take i es) rest e) a.attached).each e.key).1 (Contains-middle (keys (take i es)) (keys rest) e.key)
 
-pub looked_start : (s : Searching) (g : ℕ) (h : Held) (n : ℕ) → HasAll s h → IsDistinct (keys_of h) → length (entries h) ≤ n → HasKeys s (looked_at g (entries h) n)
+pub looked_start : (s : Searching) (g : ℕ) (h : StoreView) (n : ℕ) → HasAll s h → IsDistinct (keys_of h) → length (entries h) ≤ n → HasKeys s (looked_at g (entries h) n)
 looked_start s g h n a d le =
     let all : looked_at g (entries h) n ≡ entries h = ap (λ xs. xs ++ filter (keeps g) (drop n (entries h))) (take_all n (entries h) le) ∙ ap (λ xs. entries h ++ filter (keeps g) xs) (drop_all n (entries h) le) ∙ append-nil (entries h) in
     subst (HasKeys s) (sym all) (record { attached = has_all s h a; distinct = d })
@@ -63,11 +63,11 @@ filter_every {X} p (x ∷ xs) h = go (p x) (h x (Contains-first x xs)) (filter_e
     go true e r = ap (λ ys. x ∷ ys) r
     go false e r = absurd cc
 
-is_plain : (h : Held) (e : Entry) → IsWhole h → Contains h.plain e → IsPlain (problem_of h) e.lits
+is_plain : (h : StoreView) (e : Entry) → IsWhole h → Contains h.plain e → IsPlain (problem_of h) e.lits
 is_plain h e w c = All-contains (IsPlain (problem_of h)) (map (λ (e : Entry). e.lits) h.plain) e.lits w.well_formed.plain (Contains-map (λ (e : Entry). e.lits) h.plain e c)
 
 -- once plain clauses alone weren't looked at, what is left is what the store has without the guard
-pub looked_end : (law : EntriesAreLeft) (s : Searching) (g : ℕ) (h : Held) (i : ℕ) → IsWhole h → Contains h.active g → i ≤ length h.plain → HasKeys s (looked_at g (entries h) i) → AreAttached s (keys_of (without_guard_of g h))
+pub looked_end : (law : EntriesAreLeft) (s : Searching) (g : ℕ) (h : StoreView) (i : ℕ) → IsWhole h → Contains h.active g → i ≤ length h.plain → HasKeys s (looked_at g (entries h) i) → AreAttached s (keys_of (without_guard_of g h))
 looked_end law s g h i w act le k = subst (AreAttached s) (ap keys (ap (λ xs. xs ++ filter (keeps g) (drop i es)) (sym plain) ∙ sym (filter-append (keeps g) (take i es) (drop i es)) ∙ ap (filter (keeps g)) (take-append-drop i es) ∙ sym (law g h w act))) k.attached
   where
     es : List Entry
@@ -80,7 +80,7 @@ looked_end law s g h i w act le k = subst (AreAttached s) (ap keys (ap (λ xs. x
     plain = filter_every (keeps g) (take i es) (λ e c. not_from_false _ (names_none (problem_of h) e.lits g (is_plain h e w (Contains-take i h.plain e (subst (λ xs. Contains xs e) front c))) act))
 
 -- an entry of the problem: a plain clause, or a group
-problem_entry : (h : Held) (i : ℕ) (e : Entry) → i < length h.plain + length h.groups → e ≡ get_or (entries h) i e → ((i < length h.plain) × Contains h.plain e) ⊎ ((q : GroupEntry) × Contains h.groups q × (full_entry q ≡ e))
+problem_entry : (h : StoreView) (i : ℕ) (e : Entry) → i < length h.plain + length h.groups → e ≡ get_or (entries h) i e → ((i < length h.plain) × Contains h.plain e) ⊎ ((q : GroupEntry) × Contains h.groups q × (full_entry q ≡ e))
 problem_entry h i e lt q = elim (cases_lt i (length h.plain)) [
   | inl l ↦ inl (l, (i, l, sym (q ∙ get_or_append_left h.plain rest e i l)))
   | inr r ↦ inr (Contains-unmap full_entry h.groups e (i - length h.plain, within r, sym (q ∙ get_or-append_right h.plain rest (length h.plain) i e refl r ∙ get_or_append_left (map full_entry h.groups) h.learnt e (i - length h.plain) (within r))))
@@ -113,18 +113,18 @@ split_last p c gs plain a = record { before = λ j k le lt unlike. go j k le lt 
         subst (λ m. ¬ Contains p.active (m / 2)) (sym (get_or_append_left c (negatives gs) 0 j h)) (var_facts p (get_or c j 0 / 2) v).inactive
     go j k le lt unlike (inr r) = absurd (unlike (guard_at p.active c gs k a r lt))
 
-in_group : (h : Held) (q : GroupEntry) → IsWhole h → Contains h.groups q → IsGroup (problem_of h) (group_in q)
+in_group : (h : StoreView) (q : GroupEntry) → IsWhole h → Contains h.groups q → IsGroup (problem_of h) (group_in q)
 in_group h q w c = All-contains (IsGroup (problem_of h)) (map group_in h.groups) (group_in q) w.well_formed.groups (Contains-map group_in h.groups q c)
 
 -- of an entry of the problem the guards' literals stand last
-pub guards_last : (h : Held) (i : ℕ) (e : Entry) → IsWhole h → i < length h.plain + length h.groups → e ≡ get_or (entries h) i e → AreGuardsLast h.active e.lits
+pub guards_last : (h : StoreView) (i : ℕ) (e : Entry) → IsWhole h → i < length h.plain + length h.groups → e ≡ get_or (entries h) i e → AreGuardsLast h.active e.lits
 guards_last h i e w lt q = elim (problem_entry h i e lt q) [
   | inl p ↦ subst (AreGuardsLast h.active) (append-nil e.lits) (split_last (problem_of h) e.lits [] (is_plain h e w p.1) (All-nil (Contains h.active)))
   | inr r ↦ subst (λ (x : Entry). AreGuardsLast h.active x.lits) r.2 (let g = in_group h r.0 w r.1 in split_last (problem_of h) r.0.clause r.0.guards g.0 g.1)
 ]
 
 -- and where its last literal is of none, it is a plain clause
-pub plain_place : (h : Held) (i : ℕ) (e : Entry) → IsWhole h → i < length h.plain + length h.groups → e ≡ get_or (entries h) i e → ¬ EndsActive h.active e.lits → i < length h.plain
+pub plain_place : (h : StoreView) (i : ℕ) (e : Entry) → IsWhole h → i < length h.plain + length h.groups → e ≡ get_or (entries h) i e → ¬ EndsActive h.active e.lits → i < length h.plain
 plain_place h i e w lt q unlike = elim (problem_entry h i e lt q) [
   | inl p ↦ p.0
   | inr r ↦ absurd (unlike (subst (λ (x : Entry). EndsActive h.active x.lits) r.2 (ends r.0 (in_group h r.0 w r.1))))

@@ -1,7 +1,6 @@
 pub mod Keys
 pub mod Leaving
 pub mod Reading
-pub mod Table
 pub mod Moving
 pub mod Opening
 pub mod Slices

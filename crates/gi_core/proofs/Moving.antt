@@ -7,7 +7,7 @@ use Rattle.std.proofs.lemmas.Bool.{both_ways, and_from, leb-false, ltb-false, ca
 use Rattle.gi_lit.specs.Problem.{Problem, without_guard, without_var, IsAssumable, IsWellFormed}
 use Rattle.gi_lit.proofs.Vars.{var_facts, guard_facts}
 use Rattle.gi_lit.proofs.Growing.{Grows}
-use Rattle.gi_store.specs.Held.{IsWithin}
+use Rattle.gi_store.specs.StoreView.{IsWithin}
 use Rattle.gi_lit.specs.Literals.{max_var}
 use Rattle.gi_model.specs.State.{State, Scope, Found, listed, failing, listed_in, Solve, no_solve, running, paused, ended, Run, live_run, scope_listed, dead_state}
 use Rattle.gi_model.specs.Replies.{waited}
@@ -28,13 +28,13 @@ use Rattle.gi_model.proofs.Histories.{allowed_kept}
 use Rattle.gi_scopes.specs.Open.{Open, AreReasoned, StillFail, FoundFails, ScopeFails}
 use Rattle.gi_scopes.specs.Laws.{MoreClausesKeepReasons}
 use Rattle.gi_core.specs.Content.{Content}
-use Rattle.gi_core.specs.Task.{solve_of}
-use Rattle.gi_core.specs.View.{state_of, IsBacked, IsBlank, IsWhole, Moves}
-use Rattle.gi_core.specs.declared.task.Task.{Task}
+use Rattle.gi_model.specs.Views.{solve_of}
+use Rattle.gi_core.specs.View.{state_of, IsBacked, IsBlank, IsMachine, Moves}
+use Rattle.gi_model.specs.declared.solve.Solve.{Solve as SolveCode}
 use Rattle.gi_core.specs.declared.machine.Machine.{Machine}
 
 -- a step keeps what every history keeps
-pub moves_whole : (old new : Machine) (c : Call) (answer : Reply) → Moves old c answer new → IsWhole old → IsWhole new
+pub moves_whole : (old new : Machine) (c : Call) (answer : Reply) → Moves old c answer new → IsMachine old → IsMachine new
 moves_whole old new c answer m w = record { kept = subst IsKept (sym m.step.new_is) (allowed_kept (state_of old) c answer m.step.allowed w.kept); backed = m.backed w.backed }
 
 -- a call that changes no part that the state shows
@@ -46,14 +46,14 @@ blank_backed c o h = record { reasoned = h.reasoned c.problem; served = rw h.unk
 
 -- want of memory
 pub moves_dead : (m n : Machine) (c : Call) (answer : Reply) → MayCome (state_of m) c → refuses (state_of m) c ≡ None → takes_memory (state_of m) c ≡ true → answer ≡ reply.NoMemory → state_of n ≡ dead_state → IsBlank n.scopes → Moves m c answer n
-moves_dead m n c answer may free takes ea es all = record { step = rw (ea, es) (step_dead (state_of m) c may free takes); backed = λ b. blank_backed n.engine n.scopes all }
+moves_dead m n c answer may free takes ea es all = record { step = rw (ea, es) (step_dead (state_of m) c may free takes); backed = λ b. blank_backed n.solver n.scopes all }
 
 -- an edit of the problem
-pub moves_edit : (law : MoreClausesKeepReasons) (m : Machine) (e : Content) (t : Task) (q : Problem) (c : Call) (answer : Reply) → MayCome (state_of m) c → refuses (state_of m) c ≡ None → Answers (state_of m) c answer → after (state_of m) c answer ≡ with_problem q (state_of m)
-    → e ≡ record m.engine { problem = q } → solve_of t ≡ edited (solve_of m.task) → Grows m.engine.problem q → Moves m c answer (record m { engine = e; task = t })
+pub moves_edit : (law : MoreClausesKeepReasons) (m : Machine) (e : Content) (t : SolveCode) (q : Problem) (c : Call) (answer : Reply) → MayCome (state_of m) c → refuses (state_of m) c ≡ None → Answers (state_of m) c answer → after (state_of m) c answer ≡ with_problem q (state_of m)
+    → e ≡ record m.solver { problem = q } → solve_of t ≡ edited (solve_of m.solve) → Grows m.solver.problem q → Moves m c answer (record m { solver = e; solve = t })
 moves_edit law m e t q c answer may free a aft ee et g = record {
-  step = step_done (state_of m) c answer (state_of (record m { engine = e; task = t })) may free a (rw (ee, et) (sym aft));
-  backed = λ b. subst (λ (k : Content). IsBacked k m.scopes) (sym ee) (record { reasoned = law m.engine.problem q m.scopes g.full b.reasoned; served = b.served });
+  step = step_done (state_of m) c answer (state_of (record m { solver = e; solve = t })) may free a (rw (ee, et) (sym aft));
+  backed = λ b. subst (λ (k : Content). IsBacked k m.scopes) (sym ee) (record { reasoned = law m.solver.problem q m.scopes g.full b.reasoned; served = b.served });
 }
 
 -- the scopes as an edit of clauses leaves them: no trail is kept
@@ -61,11 +61,11 @@ abbrev pub unkept : Open → Open
 unkept o = record o { kept = None }
 
 -- an edit of the clauses
-pub moves_clauses : (law : MoreClausesKeepReasons) (m : Machine) (e : Content) (o : Open) (t : Task) (q : Problem) (c : Call) (answer : Reply) → MayCome (state_of m) c → refuses (state_of m) c ≡ None → Answers (state_of m) c answer → after (state_of m) c answer ≡ with_problem q (state_of m)
-    → e ≡ record m.engine { problem = q; base = e.base } → o ≡ unkept m.scopes → solve_of t ≡ edited (solve_of m.task) → Grows m.engine.problem q → Moves m c answer (record m { engine = e; scopes = o; task = t })
+pub moves_clauses : (law : MoreClausesKeepReasons) (m : Machine) (e : Content) (o : Open) (t : SolveCode) (q : Problem) (c : Call) (answer : Reply) → MayCome (state_of m) c → refuses (state_of m) c ≡ None → Answers (state_of m) c answer → after (state_of m) c answer ≡ with_problem q (state_of m)
+    → e ≡ record m.solver { problem = q; base = e.base } → o ≡ unkept m.scopes → solve_of t ≡ edited (solve_of m.solve) → Grows m.solver.problem q → Moves m c answer (record m { solver = e; scopes = o; solve = t })
 moves_clauses law m e o t q c answer may free a aft ee eo et g = record {
-  step = step_done (state_of m) c answer (state_of (record m { engine = e; scopes = o; task = t })) may free a (rw (ee, eo, et) (sym aft));
-  backed = λ b. rw eo (record { reasoned = subst (λ (p : Problem). AreReasoned p (unkept m.scopes)) (sym (ap (λ (k : Content). k.problem) ee)) (law m.engine.problem q m.scopes g.full b.reasoned); served = tt });
+  step = step_done (state_of m) c answer (state_of (record m { solver = e; scopes = o; solve = t })) may free a (rw (ee, eo, et) (sym aft));
+  backed = λ b. rw eo (record { reasoned = subst (λ (p : Problem). AreReasoned p (unkept m.scopes)) (sym (ap (λ (k : Content). k.problem) ee)) (law m.solver.problem q m.scopes g.full b.reasoned); served = tt });
 }
 
 -- without open scopes nothing is listed
@@ -77,11 +77,11 @@ no_scopes : (scs : List Scope) (g : ℕ) → is_scoped scs (call.DropGuard g) �
 no_scopes [] g e = refl
 no_scopes (sc ∷ scs) g e = absurd (let b = ltb-false 0 (length (sc ∷ scs)) e in omega arith)
 
-pub moves_drop : (m : Machine) (e : Content) (o : Open) (t : Task) (g : ℕ) → refuses (state_of m) (call.DropGuard g) ≡ None → e ≡ record { problem = without_guard g m.engine.problem; known = without_var g m.engine.known; base = e.base } → o ≡ unkept m.scopes → solve_of t ≡ edited (solve_of m.task) → Moves m (call.DropGuard g) reply.Done (record m { engine = e; scopes = o; task = t })
+pub moves_drop : (m : Machine) (e : Content) (o : Open) (t : SolveCode) (g : ℕ) → refuses (state_of m) (call.DropGuard g) ≡ None → e ≡ record { problem = without_guard g m.solver.problem; known = without_var g m.solver.known; base = e.base } → o ≡ unkept m.scopes → solve_of t ≡ edited (solve_of m.solve) → Moves m (call.DropGuard g) reply.Done (record m { solver = e; scopes = o; solve = t })
 unfolding after
 moves_drop m e o t g free ee eo et = record {
-  step = step_done (state_of m) (call.DropGuard g) reply.Done (state_of (record m { engine = e; scopes = o; task = t })) refl free refl (rw (ee, eo, et) refl);
-  backed = λ b. rw eo (record { reasoned = none_listed m.engine.problem e.problem m.scopes (no_scopes m.scopes.scopes g (accepted_facts (state_of m) (call.DropGuard g) refl free).unscoped) b.reasoned; served = tt });
+  step = step_done (state_of m) (call.DropGuard g) reply.Done (state_of (record m { solver = e; scopes = o; solve = t })) refl free refl (rw (ee, eo, et) refl);
+  backed = λ b. rw eo (record { reasoned = none_listed m.solver.problem e.problem m.scopes (no_scopes m.scopes.scopes g (accepted_facts (state_of m) (call.DropGuard g) refl free).unscoped) b.reasoned; served = tt });
 }
 
 -- a guard is left to hand out

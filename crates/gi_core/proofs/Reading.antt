@@ -7,7 +7,7 @@ use Rattle.gi_lit.specs.Problem.{Problem, has, is_usable, top, grown, IsPlain, I
 use Rattle.gi_lit.proofs.Vars.{has-from_Contains, lacks, usable_facts}
 use Rattle.gi_lit.proofs.Growing.{IsUsable, usable_grown}
 use Rattle.gi_lit.proofs.Tops.{top_bounds}
-use Rattle.gi_store.specs.Held.{Held}
+use Rattle.gi_store.specs.StoreView.{StoreView}
 use Rattle.gi_model.specs.Refusals.{some_unusable}
 use Rattle.gi_cdcl.specs.Searching.{AreKnown}
 use Rattle.gi_core.specs.Content.{content_of}
@@ -35,5 +35,5 @@ some_freed false [] h = refl
 some_freed false (x ∷ xs) h = absurd (let e = h.1 (λ q. cc) in cc)
 
 -- what is learnt, as a search wants it
-pub known_usable : (h : Held) → AreUsable (content_of h) → AreKnown h
+pub known_usable : (h : StoreView) → AreUsable (content_of h) → AreKnown h
 known_usable h u = record { implied = u.implied; used = u.used }

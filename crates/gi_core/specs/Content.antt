@@ -1,15 +1,15 @@
--- What contracts see of an engine: a problem, and what is learnt about it.
+-- What contracts see of a solver: a problem, and what is learnt about it.
 use Rattle.std.specs.Prelude.{ℕ, List, []}
 use Rattle.gi_lit.specs.Problem.{Problem, empty_problem}
-use Rattle.gi_store.specs.Held.{Held, problem_of, known_of}
+use Rattle.gi_store.specs.StoreView.{StoreView, problem_of, known_of}
 use Rattle.gi_scopes.specs.Under.{base_of}
 
 pub record Content : Type 0 where
   pub problem : Problem
   pub known : List (List ℕ)  -- the learnt clauses, the oldest first
-  pub base : Held  -- the plain clauses and groups with their keys
+  pub base : StoreView  -- the plain clauses and groups with their keys
 
-abbrev pub content_of : Held → Content
+abbrev pub content_of : StoreView → Content
 content_of h = record { problem = problem_of h; known = known_of h; base = base_of h }
 
 -- with nothing in it

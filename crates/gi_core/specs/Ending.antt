@@ -2,6 +2,8 @@
 use Rattle.std.specs.Prelude.{◌≡◌, ℕ, ◌<◌, ◌==◌, if◌then◌else◌, Option, Some, None, List, length}
 use Rattle.gi_model.specs.State.{dead_state}
 use Rattle.gi_model.specs.Effects.{sliced}
+use Rattle.gi_model.specs.Views.{run_of}
+use Rattle.gi_model.specs.declared.run.Run.{Run}
 use Rattle.gi_model.specs.declared.replies.Reply.{Reply}
 use Rattle.gi_model.specs.declared.replies.Reply.TheVariants as reply
 use Rattle.gi_model.specs.declared.replies.Now.{Now}
@@ -11,9 +13,7 @@ use Rattle.gi_model.specs.declared.replies.Verdict.TheVariants as verdict
 use Rattle.gi_model.specs.declared.replies.Cause.TheVariants.{Stopped, Budget}
 use Rattle.gi_cdcl.specs.declared.slice.Slice.{Slice}
 use Rattle.gi_cdcl.specs.declared.slice.Slice.TheVariants as slice
-use Rattle.gi_core.specs.Task.{run_of}
 use Rattle.gi_core.specs.View.{state_of, IsBlank}
-use Rattle.gi_core.specs.declared.task.Job.{Job}
 use Rattle.gi_core.specs.declared.machine.Machine.{Machine}
 
 -- the verdict of a slice after which so much is spent of a budget; none where the solve goes on
@@ -29,18 +29,18 @@ now_of None = Live
 now_of (Some v) = Ended v
 
 -- the news and what became of the solve are told, and nothing else changes but the solve
-pub record IsSettled (old : Machine) (job : Job) (news : List (List ℕ)) (v : Option Verdict) (told : List (List ℕ)) (now : Now) (new : Machine) : Type 0 where
+pub record IsSettled (old : Machine) (run : Run) (news : List (List ℕ)) (v : Option Verdict) (told : List (List ℕ)) (now : Now) (new : Machine) : Type 0 where
   pub news_are : told ≡ news
   pub now_is : now ≡ now_of v
-  pub state : state_of new ≡ record (state_of old) { solve = sliced (run_of job) (length news) now }
+  pub state : state_of new ≡ record (state_of old) { solve = sliced (run_of run) (length news) now }
   pub scopes : new.scopes ≡ old.scopes
-  pub engine : new.engine ≡ old.engine
+  pub solver : new.solver ≡ old.solver
 
 -- or memory was wanting
-abbrev pub Settles : Machine → Job → List (List ℕ) → Option Verdict → Reply → Machine → Type 0
-Settles old job news v (reply.Worked told now) new = IsSettled old job news v told now new
-Settles old job news v reply.NoMemory new = (state_of new ≡ dead_state) × IsBlank new.scopes
-Settles old job news v answer new = ⊥
+abbrev pub Settles : Machine → Run → List (List ℕ) → Option Verdict → Reply → Machine → Type 0
+Settles old run news v (reply.Worked told now) new = IsSettled old run news v told now new
+Settles old run news v reply.NoMemory new = (state_of new ≡ dead_state) × IsBlank new.scopes
+Settles old run news v answer new = ⊥
 
 -- fewer news than so many
 abbrev pub IsNews : ℕ → Reply → Type 0

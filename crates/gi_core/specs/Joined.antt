@@ -2,32 +2,32 @@
 use Rattle.std.specs.Prelude.{ℕ, ◌-◌, ◌/◌, ◌<◌, ◌≤◌, not, List, ◌++◌, length, map, take, drop, filter, slice_index, Contains, ◌↔◌}
 use Rattle.gi_lit.specs.Lists.{IsDistinct}
 use Rattle.gi_lit.specs.Problem.{names}
-use Rattle.gi_store.specs.Held.{Entry, Held}
+use Rattle.gi_store.specs.StoreView.{Entry, StoreView}
 use Rattle.gi_prop.specs.Attached.{IsAttached}
-use Rattle.gi_cdcl.specs.Searching.{Searching, GoesWith, HasAll}
+use Rattle.gi_cdcl.specs.Searching.{Searching, MatchesStore, HasAll}
 
 -- exactly the store's clauses are attached
-pub record IsJoined (solver : Searching) (store : Held) : Type 0 where
-  pub goes : GoesWith solver store
-  pub all : HasAll solver store
+pub record IsJoined (s : Searching) (store : StoreView) : Type 0 where
+  pub goes : MatchesStore s store
+  pub all : HasAll s store
 
 -- exactly these keys are attached
-pub record AreAttached (solver : Searching) (keys : List ℕ) : Type 0 where
-  pub each : (k : ℕ) → IsAttached solver.attached k ↔ Contains keys k
+pub record AreAttached (s : Searching) (keys : List ℕ) : Type 0 where
+  pub each : (k : ℕ) → IsAttached s.attached k ↔ Contains keys k
 
 -- the keys of entries
 abbrev pub keys : List Entry → List ℕ
 keys es = map (λ (e : Entry). e.key) es
 
 -- exactly these entries' keys are attached, and no key stands twice
-pub record HasKeys (solver : Searching) (es : List Entry) : Type 0 where
-  pub attached : AreAttached solver (keys es)
+pub record HasKeys (s : Searching) (es : List Entry) : Type 0 where
+  pub attached : AreAttached s (keys es)
   pub distinct : IsDistinct (keys es)
 
 -- of the old search these entries are left, and it still goes with each store that it went with
 pub record IsLeft (old now : Searching) (es : List Entry) : Type 0 where
   pub keys : HasKeys now es
-  pub goes : (h : Held) → GoesWith old h → GoesWith now h
+  pub goes : (h : StoreView) → MatchesStore old h → MatchesStore now h
 
 -- what is left once the entries from a place on were looked at: those that don't name the guard
 abbrev pub looked_at : ℕ → List Entry → ℕ → List Entry

@@ -23,12 +23,12 @@ abbrev pub StepsAreLegal : Type 0
 StepsAreLegal = (es : List Entry) (s : State) → Runs opening es s → IsAfter es s
 
 -- the invariant of all legal histories holds, and each learnt clause is implied
-pub record IsSound (s : State) : Type 0 where
+pub record IsStateSound (s : State) : Type 0 where
   pub kept : IsKept s
   pub implied : All (IsImplied s.problem) s.known
 
 abbrev pub StepsKeep : Type 0
-StepsKeep = (es : List Entry) (s : State) → Runs opening es s → IsSound s
+StepsKeep = (es : List Entry) (s : State) → Runs opening es s → IsStateSound s
 
 -- the learnt clauses, and what a solve under way has spent, are those that the entries alone tell
 pub record IsTold (es : List Entry) (s : State) : Type 0 where

@@ -1,10 +1,7 @@
 pub mod Content
 pub mod Joined
 pub mod Slicing
-pub mod Task
 pub mod View
 pub mod Ending
-pub mod Lacking
-pub mod Early
 pub mod Loads
 pub mod Laws

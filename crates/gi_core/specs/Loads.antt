@@ -2,10 +2,10 @@
 use Rattle.std.specs.Prelude.{◌≡◌, ℕ, true, None, List}
 use Rattle.gi_dimacs.specs.Relation.{IsCnf}
 use Rattle.gi_dimacs.specs.declared.cnf.Cnf.{Cnf}
+use Rattle.gi_model.specs.Early.{early}
 use Rattle.gi_model.specs.Fits.{fits}
 use Rattle.gi_model.specs.declared.calls.Call.TheVariants.{LoadCnf}
 use Rattle.gi_model.specs.declared.replies.Reply.{Reply}
-use Rattle.gi_core.specs.Early.{early}
 use Rattle.gi_core.specs.View.{state_of, Moves}
 use Rattle.gi_core.specs.declared.machine.Machine.{Machine}
 

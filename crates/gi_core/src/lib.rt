@@ -1,23 +1,18 @@
 //! The whole machine: a store of clauses, a search over them, and scopes.
 #![tactic(auto)]
 
-mod accept;
 mod asking;
+mod attaching;
 mod edits;
-mod engine;
-mod joining;
+mod facts;
 pub mod laws;
-mod lists;
 mod loading;
-mod looking;
 mod machine;
-mod refusals;
-mod shell;
+mod queries;
+mod scopes;
+mod solver;
+mod solver_core;
 mod solving;
-mod task;
-mod testing;
-#[cfg(test)]
-mod tests;
 
-pub use shell::Core;
+pub use solver_core::Core;
 pub use solving::Work;

@@ -1,22 +1,21 @@
 //! The start of a solve, and the work on it.
 
-ghost use Rattle.std.specs.Prelude.{◌≡◌, ◌≢◌, ◌+◌, ◌<◌, ◌≤◌, ◌↔◌, ℕ, ◌*◌, min, None, IfOk, length, is_some, IsTrue};
+ghost use Rattle.std.specs.Prelude.{◌≡◌, ◌≢◌, ◌+◌, ◌≤◌, ℕ, ◌*◌, min, None, IfOk, length};
 ghost use Rattle.gi_model.specs.Limits.{most_news};
 ghost use Rattle.gi_model.specs.Luby.{IsLuby};
-ghost use Rattle.gi_model.specs.State.{all_assumed, live_run};
+ghost use Rattle.gi_model.specs.State.{all_assumed};
 ghost use Rattle.gi_model.specs.History.{MayCome};
 ghost use Rattle.gi_model.specs.Refusals.{refuses};
 ghost use Rattle.gi_model.specs.declared.calls.Call.TheVariants as call;
 ghost use Rattle.gi_core.specs.Ending.{verdict_of, Settles, IsNews};
-ghost use Rattle.gi_core.specs.View.{state_of, IsWhole, Moves};
+ghost use Rattle.gi_core.specs.View.{state_of, IsMachine, Moves};
 
-use crate::engine::is_lost;
-use crate::lists::append;
 use crate::machine::Machine;
-use crate::task::{Flag, Job, Task, copy_verdict};
+use crate::solver::is_lost;
 use gi_cdcl::{Brake, Slice, Sliced};
 use gi_lit::{Clauses, Lits};
-use gi_model::{Cause, MAX_NEWS, Now, Reply, Verdict, luby};
+use gi_model::lists::append;
+use gi_model::{Cause, Life, MAX_NEWS, Now, Reply, Run, Solve, Verdict, is_live, luby};
 use std::alloc::AllocError;
 use std::mem;
 
@@ -71,76 +70,58 @@ impl Machine {
     }
 
     pub fn start(&mut self, budget: u32) -> Reply
-        requires whole { IsWhole self.old }
+        requires whole { IsMachine self.old }
         requires comes { MayCome (state_of self.old) (call.Solve budget) }
         requires free { refuses (state_of self.old) (call.Solve budget) ≡ None }
         ensures { Moves self.old (call.Solve budget) result self.new }
     {
         match self.all_assumed() {
             Ok(assumed) => {
-                self.engine.trim();
+                self.solver.trim();
                 self.pending = Lits::new(self.alloc);
                 self.serial += 1;
-                self.task = Task::Running(Job {
-                    serial: self.serial,
-                    assumed,
-                    budget,
-                    spent: 0,
-                    slices: 0,
-                });
+                let run = Run::new(self.serial, assumed, budget);
+                self.solve = Solve::Running(run);
                 Reply::Started(self.serial)
             }
             Err(_) => self.die(),
         }
     }
 
-    /// Whether there is a solve to work on.
-    fn is_live(&self) -> bool
-        ensures { result ≡ is_some (live_run (state_of self.now)) }
-    {
-        match self.flag {
-            Flag::Alive => match &self.task {
-                Task::Running(_) => true,
-                _ => false,
-            },
-            _ => false,
-        }
-    }
-
     pub fn work<B: Brake>(&mut self, brake: &mut B) -> Work
-        requires whole { IsWhole self.old }
+        requires whole { IsMachine self.old }
         requires new_brake { (B.top brake.old ≡ 0) × (B.asks brake.old ≡ 0) }
         ensures moves { Moves self.old (call.Work result.mark) result.reply self.new }
         ensures mark { result.mark ≡ B.top brake.new }
         ensures follows { B.follows brake.old brake.new }
         ensures asks { IsNews (B.asks brake.new) result.reply }
     {
-        if !self.is_live() {
+        if !is_live(self) {
             return Work {
                 mark: 0,
                 reply: Reply::Idle,
             };
         }
-        match mem::replace(&mut self.task, Task::Idle) {
-            Task::Running(job) => self.work_on(job, brake),
+        match mem::replace(&mut self.solve, Solve::Idle) {
+            Solve::Running(run) => self.work_on(run, brake),
             _ => unreachable!(),
         }
     }
 
     /// A slice of work on the solve, which was taken out of the machine.
-    fn work_on<B: Brake>(&mut self, job: Job, brake: &mut B) -> Work
-        requires whole { IsWhole (record self.old { task = Task.Running job }) }
-        requires alive { self.old.flag ≡ Flag.Alive }
+    fn work_on<B: Brake>(&mut self, run: Run, brake: &mut B) -> Work
+        requires whole { IsMachine (record self.old { solve = Solve.Running run }) }
+        requires alive { self.old.life ≡ Life.Alive }
         requires new_brake { (B.top brake.old ≡ 0) × (B.asks brake.old ≡ 0) }
-        ensures moves { Moves (record self.old { task = Task.Running job }) (call.Work result.mark) result.reply self.new }
+        ensures moves { Moves (record self.old { solve = Solve.Running run }) (call.Work result.mark) result.reply self.new }
         ensures mark { result.mark ≡ B.top brake.new }
         ensures follows { B.follows brake.old brake.new }
         ensures asks { IsNews (B.asks brake.new) result.reply }
     {
-        let limit = slice_limit(job.slices, job.budget - job.spent);
+        let limit = slice_limit(run.slices, run.budget - run.spent);
         let Sliced { news, mark, end } = self
-            .engine
-            .slice(job.assumed.as_slice(), limit, job.serial, brake);
+            .solver
+            .slice(run.assumed.as_slice(), limit, run.serial, brake);
         if is_lost(&end) {
             return Work {
                 mark,
@@ -149,34 +130,29 @@ impl Machine {
         }
         Work {
             mark,
-            reply: self.settle(job, news, mark, end),
+            reply: self.settle(run, news, mark, end),
         }
     }
 
     /// What a slice leaves of its solve, and its answer.
-    fn settle(&mut self, job: Job, news: Clauses, mark: u64, end: Slice) -> Reply
-        requires budget { job.spent + length news ≤ job.budget }
-        requires slices { job.slices < job.budget }
-        ensures { Settles self.old job news (verdict_of end mark (job.spent + length news) job.budget) result self.new }
+    fn settle(&mut self, run: Run, news: Clauses, mark: u64, end: Slice) -> Reply
+        requires budget { run.spent + length news ≤ run.budget }
+        requires found { end ≢ Slice.NoMemory }
+        requires some { end ≡ Slice.Learned → 1 ≤ length news }
+        ensures { Settles self.old run news (verdict_of end mark (run.spent + length news) run.budget) result self.new }
     {
-        let spent = job.spent + news.len() as u32;
-        match verdict_of(end, mark, spent, job.budget) {
+        let count = news.len() as u32;
+        match verdict_of(end, mark, run.spent + count, run.budget) {
             None => {
-                self.task = Task::Running(Job {
-                    serial: job.serial,
-                    assumed: job.assumed,
-                    budget: job.budget,
-                    spent,
-                    slices: job.slices + 1,
-                });
+                self.solve = Solve::Running(run.go_on(count));
                 Reply::Worked {
                     news,
                     now: Now::Live,
                 }
             }
-            Some(verdict) => match copy_verdict(self.alloc, &verdict) {
+            Some(verdict) => match verdict.copy(self.alloc) {
                 Ok(copy) => {
-                    self.task = Task::Ended(job.serial, copy);
+                    self.solve = Solve::Ended(run.serial, copy);
                     Reply::Worked {
                         news,
                         now: Now::Ended(verdict),

@@ -10,7 +10,7 @@ loop-i-init c = c.new-lits.ensures
 
 pub loop-i-preserved : goal.loop-i-preserved
 loop-i-preserved c =
-    let p = c.args.engine.now.problem in
+    let p = c.args.solver.now.problem in
     let values = c.args.values.now in
     let lt : c.loop-i.i < length values = omega (arith, c.len-i-end.ensures) in
     let P : List ℕ → Type 0 = λ ls. ls ≡ model_of p (take (c.loop-i.i + 1) values) in

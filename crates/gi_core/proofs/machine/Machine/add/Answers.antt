@@ -16,7 +16,7 @@ pub returns-in-Ok : goal.returns-in-Ok
 unfolding after
 returns-in-Ok c =
     let m = c.args.self.now in
-    moves_clauses c.more_clauses_keep_reasons.ensures m c.add.new.self c.edited.new.self c.forget.new.self (with_clause c.args.c.now m.engine.problem) (call.Add c.args.c.now) (reply.Done) refl c.requires (refl) refl (rw c.as_slice.ensures at c.in-Ok.ensures) c.edited.ensures c.forget.ensures (grows_clause c.args.c.now m.engine.problem)
+    moves_clauses c.more_clauses_keep_reasons.ensures m c.add.new.self c.edited.new.self c.forget.new.self (with_clause c.args.c.now m.solver.problem) (call.Add c.args.c.now) (reply.Done) refl c.requires (refl) refl (rw c.as_slice.ensures at c.in-Ok.ensures) c.edited.ensures c.forget.ensures (grows_clause c.args.c.now m.solver.problem)
 
 pub returns-in-Err : goal.returns-in-Err
 returns-in-Err c = moves_dead c.args.self.now c.die.new.self (call.Add c.args.c.now) c.die.result refl c.requires refl c.die.ensures.value c.die.ensures.state c.die.ensures.blank

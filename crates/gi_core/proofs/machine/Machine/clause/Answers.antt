@@ -17,7 +17,7 @@ known_clause-requires-clause-low c =
 pub known_clause-requires-clause-high : goal.known_clause-requires-clause-high
 known_clause-requires-clause-high c =
     let b = or_parts _ _ (accepted_facts (state_of c.args.self.now) (call.KnownClause c.args.i) refl c.requires).has_clause in
-    ltb-false (length c.args.self.now.engine.known) c.args.i b.1
+    ltb-false (length c.args.self.now.solver.known) c.args.i b.1
 
 pub returns-in-Ok : goal.returns-in-Ok
 unfolding after

@@ -8,7 +8,7 @@ pub returns-in-Cnf : goal.returns-in-Cnf
 returns-in-Cnf c = c.take_file.ensures c.args.bytes.now c.in-Cnf.ensures c.requires.fits c.requires.free
 
 pub returns-in-Fault : goal.returns-in-Fault
-returns-in-Fault c = rw c.refusal_of.ensures (moves_fault c.args.self.now c.args.bytes.now c.in-Fault.fault c.requires.whole.kept c.requires.fits c.requires.free c.in-Fault.ensures)
+returns-in-Fault c = rw c.refusal_of_fault.ensures (moves_fault c.args.self.now c.args.bytes.now c.in-Fault.fault c.requires.whole.kept c.requires.fits c.requires.free c.in-Fault.ensures)
 
 pub returns-in-NoMemory : goal.returns-in-NoMemory
 returns-in-NoMemory c = moves_unread c.args.self.now c.die.new.self c.args.bytes.now c.die.result c.requires.fits c.requires.free c.die.ensures.value c.die.ensures.state c.die.ensures.blank

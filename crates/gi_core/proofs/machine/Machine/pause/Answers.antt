@@ -1,13 +1,11 @@
 use Rattle.std.proofs.Common.{refl, ap, ◌∙◌}
-use Rattle.gi_model.specs.Effects.{pausing}
 use Rattle.gi_model.specs.Replies.{status_of}
 use Rattle.gi_model.proofs.Stepping.{pause_step}
-use Rattle.gi_core.specs.Task.{solve_of}
 use Rattle.gi_core.specs.View.{state_of}
 use Rattle.gi_core.proofs.machine.Machine.pause.Goals as goal
 
 pub returns : goal.returns
 returns c =
     let m = c.args.self.now in
-    let e = c.pause.ensures ∙ ap (λ t. pausing (solve_of t)) c.replace.ensures.value in
-    record { step = pause_step (state_of m) (state_of (record m { task = c.pause.result })) c.status.result c.requires (c.status.ensures ∙ ap status_of e) (rw e refl); backed = λ b. b }
+    let e = c.pause.ensures in
+    record { step = pause_step (state_of m) (state_of (record m { solve = c.pause.new.self })) c.status.result c.requires (c.status.ensures ∙ ap status_of e) (rw e refl); backed = λ b. b }

@@ -18,7 +18,7 @@ pub returns-in-Reasons : goal.returns-in-Reasons
 unfolding after
 returns-in-Reasons c =
     let m = c.args.self.now in
-    moves_same m (call.Reasons c.args.m) (reply.Reasons c.in-Reasons.rs) (step_done (state_of m) (call.Reasons c.args.m) (reply.Reasons c.in-Reasons.rs) (state_of m) refl c.requires.free (explained m c.args.m c.in-Reasons.rs (c.in-Reasons.ensures.1 m.engine.problem c.requires.whole.backed.reasoned)) refl)
+    moves_same m (call.Reasons c.args.m) (reply.Reasons c.in-Reasons.rs) (step_done (state_of m) (call.Reasons c.args.m) (reply.Reasons c.in-Reasons.rs) (state_of m) refl c.requires.free (explained m c.args.m c.in-Reasons.rs (c.in-Reasons.ensures.1 m.solver.problem c.requires.whole.backed.reasoned)) refl)
 
 pub returns-in-NoMemory : goal.returns-in-NoMemory
 returns-in-NoMemory c = moves_dead c.args.self.now c.die.new.self (call.Reasons c.args.m) c.die.result refl c.requires.free refl c.die.ensures.value c.die.ensures.state c.die.ensures.blank

@@ -19,7 +19,7 @@ pub returns-in-Ok : goal.returns-in-Ok
 unfolding after
 returns-in-Ok c =
     let m = c.args.self.now in
-    moves_edit c.more_clauses_keep_reasons.ensures m c.grow.new.self c.forget.new.self (grown c.args.n m.engine.problem) (call.Vars c.args.n) (reply.Vars c.vars.result) refl c.requires (ap reply.Vars (c.vars.ensures ∙ ap (λ (k : Content). k.problem.vars) c.in-Ok.ensures)) refl (c.in-Ok.ensures) c.forget.ensures (grows_grown c.args.n m.engine.problem)
+    moves_edit c.more_clauses_keep_reasons.ensures m c.grow.new.self c.forget.new.self (grown c.args.n m.solver.problem) (call.Vars c.args.n) (reply.Vars c.vars.result) refl c.requires (ap reply.Vars (c.vars.ensures ∙ ap (λ (k : Content). k.problem.vars) c.in-Ok.ensures)) refl (c.in-Ok.ensures) c.forget.ensures (grows_grown c.args.n m.solver.problem)
 
 pub returns-in-Err : goal.returns-in-Err
 returns-in-Err c = moves_dead c.args.self.now c.die.new.self (call.Vars c.args.n) c.die.result refl c.requires refl c.die.ensures.value c.die.ensures.state c.die.ensures.blank

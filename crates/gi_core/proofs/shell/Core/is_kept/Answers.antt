@@ -1,6 +1,0 @@
-use Rattle.std.proofs.Common.{subst}
-use Rattle.gi_model.specs.Kept.{IsKept}
-use Rattle.gi_core.proofs.shell.Core.is_kept.Goals as goal
-
-pub returns : goal.returns
-returns c = subst IsKept c.self.view_is c.self.invariant.kept
