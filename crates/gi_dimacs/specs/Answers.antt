@@ -15,10 +15,10 @@ use Rattle.gi_dimacs.specs.Files.{read_file}
 use Rattle.gi_dimacs.specs.Relation.{IsFile, IsCnf, IsIcnf}
 
 -- what was read, unless memory ran out
-abbrev pub Tells : Outcome → Result File CnfFault → Type 0
-Tells (outcomes.File vars content) read = read ≡ Ok (record { vars = vars; content = content })
-Tells (outcomes.Fault fault) read = read ≡ Err fault
-Tells outcomes.NoMemory read = Unit {0}
+abbrev pub TellsCnf : Outcome → Result File CnfFault → Type 0
+TellsCnf (outcomes.File vars content) read = read ≡ Ok (record { vars = vars; content = content })
+TellsCnf (outcomes.Fault fault) read = read ≡ Err fault
+TellsCnf outcomes.NoMemory read = Unit {0}
 
 -- no value of the format has the bytes
 abbrev pub HasNone : Format → List ℕ → Type 0

@@ -19,6 +19,3 @@ pub use items::{Item, Items};
 pub use laws::{faults_stand, good_values, one_answer};
 pub use readers::{CnfRead, CnfReader, IcnfRead, IcnfReader};
 pub use writing::{write_cnf, write_icnf};
-
-#[cfg(test)]
-mod tests;

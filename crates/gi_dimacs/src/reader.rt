@@ -3,7 +3,7 @@ ghost use Rattle.std.specs.Prelude.{◌≡◌, ◌≢◌, ◌<◌, ◌++◌, [],
 ghost use Rattle.gi_dimacs.specs.declared.content.Format.{Format};
 ghost use Rattle.gi_dimacs.specs.Files.{read_file, whole};
 ghost use Rattle.gi_dimacs.specs.Machine.{LacksMemory, run, answer, answer_of};
-ghost use Rattle.gi_dimacs.specs.Answers.{Tells};
+ghost use Rattle.gi_dimacs.specs.Answers.{TellsCnf};
 ghost use Rattle.gi_dimacs.specs.declared.reader.Outcome.TheVariants as outcomes;
 
 use crate::content::{Content, Format};
@@ -67,7 +67,7 @@ impl Reader {
 
     /// The input has ended.
     pub fn finish(self) -> Outcome
-        ensures read { (format : Format) (bytes : List ℕ) → HasRead format self bytes → Tells result (read_file format bytes) }
+        ensures read { (format : Format) (bytes : List ℕ) → HasRead format self bytes → TellsCnf result (read_file format bytes) }
         ensures broken { self.broken ≡ true → result ≡ outcomes.NoMemory }
         ensures memory { result ≡ outcomes.NoMemory → WantsMemory self }
     {
@@ -92,7 +92,7 @@ fn take_all(machine: &mut Machine, piece: &[u8]) -> Result<(), AllocError>
 
 // What was read.
 fn answer_of(phase: Phase, line: u64, taken: Taken) -> Outcome
-    ensures read { Tells result (answer_of phase line taken) }
+    ensures read { TellsCnf result (answer_of phase line taken) }
     ensures memory { result ≢ outcomes.NoMemory }
 {
     match phase {
@@ -106,7 +106,7 @@ fn answer_of(phase: Phase, line: u64, taken: Taken) -> Outcome
 }
 
 fn file_if_whole(line: u64, taken: Taken) -> Outcome
-    ensures read { Tells result (whole taken line) }
+    ensures read { TellsCnf result (whole taken line) }
     ensures memory { result ≢ outcomes.NoMemory }
 {
     if taken.begun.as_slice().is_empty() {
@@ -134,7 +134,7 @@ fn fault(line: u64, code: CnfCode) -> Outcome
 // What a machine read, at the end of the input.
 #[tactic(auto, unfolding(crate::specs::Machine::answer))]
 fn read_off(machine: Machine) -> Outcome
-    ensures read { Tells result (answer machine) }
+    ensures read { TellsCnf result (answer machine) }
     ensures memory { result ≡ outcomes.NoMemory → LacksMemory machine }
 {
     let mut machine = machine;
