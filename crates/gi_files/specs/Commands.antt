@@ -42,13 +42,13 @@ abbrev pub Refuses : Form → List ℕ → List ℕ → Type 0
 Refuses form bytes text = (fault : CnfFault) × IsFault (format_of form) fault bytes × (text ≡ refused_text fault)
 
 -- How a command ends: the link as it was, as it was when the bytes had come, and as it is.
-abbrev pub Ends : Done → Command → Form → World → World → World → List ℕ → Type 0
-Ends done.Accepted command form old mid new bytes = (text : List ℕ) × IsAll old mid bytes × Accepts command form bytes text × Wrote mid new text
-Ends (done.Refused fault) command form old mid new bytes = IsAll old mid bytes × IsFault (format_of form) fault bytes × Wrote mid new (refused_text fault)
-Ends done.WriteFault command form old mid new bytes = (text : List ℕ) × IsAll old mid bytes × (Accepts command form bytes text ⊎ Refuses form bytes text) × WroteCut mid new text
-Ends done.NoMemory command form old mid new bytes = new ≡ mid
-Ends done.ReadFault command form old mid new bytes = Rose old.failed_reads mid.failed_reads × (new ≡ mid)
-Ends done.TooMuch command form old mid new bytes = AreTooMany bytes × (new ≡ mid)
+abbrev pub CommandEnds : Done → Command → Form → World → World → World → List ℕ → Type 0
+CommandEnds done.Accepted command form old mid new bytes = (text : List ℕ) × IsAll old mid bytes × Accepts command form bytes text × Wrote mid new text
+CommandEnds (done.Refused fault) command form old mid new bytes = IsAll old mid bytes × IsFault (format_of form) fault bytes × Wrote mid new (refused_text fault)
+CommandEnds done.WriteFault command form old mid new bytes = (text : List ℕ) × IsAll old mid bytes × (Accepts command form bytes text ⊎ Refuses form bytes text) × WroteCut mid new text
+CommandEnds done.NoMemory command form old mid new bytes = new ≡ mid
+CommandEnds done.ReadFault command form old mid new bytes = Rose old.failed_reads mid.failed_reads × (new ≡ mid)
+CommandEnds done.TooMuch command form old mid new bytes = AreTooMany bytes × (new ≡ mid)
 
 -- a command over an input: bytes came, and then the output for them was written
 pub record Does (command : Command) (form : Form) (answer : Done) (old new : World) : Type 0 where
@@ -57,4 +57,4 @@ pub record Does (command : Command) (form : Form) (answer : Done) (old new : Wor
   pub mid : World
   pub gave : Gave old mid bytes
   pub bounded : AreBounded bytes
-  pub ends : Ends answer command form old mid new bytes
+  pub ends : CommandEnds answer command form old mid new bytes

@@ -15,6 +15,3 @@ pub use form::Form;
 pub use laws::undisturbed_is_answered;
 pub use reading::{CnfInput, IcnfInput, read_cnf, read_icnf};
 pub use refusals::write_refused;
-
-#[cfg(test)]
-mod tests;
