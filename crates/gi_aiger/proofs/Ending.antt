@@ -17,7 +17,7 @@ use Rattle.gi_aiger.specs.declared.row.Section.{Section}
 use Rattle.gi_aiger.specs.declared.row.Section.TheVariants as sections
 use Rattle.gi_aiger.specs.declared.taken.Taken.{Taken}
 use Rattle.gi_levels.specs.Order.{first_cycle}
-use Rattle.gi_aiger.specs.Answers.{Answer, Tells, Reads, answer_by, answer_to}
+use Rattle.gi_aiger.specs.Answers.{Answer, TellsAig, Reads, answer_by, answer_to}
 use Rattle.gi_aiger.specs.Header.{header_of}
 use Rattle.gi_aiger.specs.Levels.{HasLevels, ClosesCycle, IsDistinct}
 use Rattle.gi_aiger.specs.Places.{nodes_of}
@@ -139,7 +139,7 @@ answer_only told r s (inl t) (inr u) = absurd (levels_never told.gates u.0 t.0 u
 answer_only told r s (inr t) (inl u) = absurd (levels_never told.gates t.0 u.0 t.1)
 answer_only told r s (inr t) (inr u) = t.2 ∙ ap (cycle_at told) (cycles.one told.gates t.0 u.0 t.1 u.1) ∙ sym u.2
 
-pub answer_said : (r : AigRead) (bytes : List ℕ) → Tells r (read_file bytes) → IsSaid r bytes
+pub answer_said : (r : AigRead) (bytes : List ℕ) → TellsAig r (read_file bytes) → IsSaid r bytes
 answer_said (reads.Aig v) bytes tells = value_said v bytes tells
 answer_said (reads.Fault f) bytes tells = λ v is. never v (answer_only (read_file bytes) (Ok v) (Err f) (said_answered v bytes is) tells) where
   never : (v : Aig) → ◌≡◌ {A = Result Aig AigFault} (Ok v) (Err f) → ⊥
@@ -154,7 +154,7 @@ answer_found told (Some k) closes = inr (k, closes, refl)
 pub answer_is : (told : Told) → IsDistinct told.gates → Answer told (answer_to told)
 answer_is told d = answer_found told (first_cycle (nodes_of told.gates)) (found_own told.gates d)
 
-pub reads_it : (r : AigRead) (told : Told) → IsDistinct told.gates → Tells r told → Reads r (answer_to told)
+pub reads_it : (r : AigRead) (told : Told) → IsDistinct told.gates → TellsAig r told → Reads r (answer_to told)
 reads_it (reads.Aig v) told d tells = answer_only told (answer_to told) (Ok v) (answer_is told d) tells
 reads_it (reads.Fault f) told d tells = answer_only told (answer_to told) (Err f) (answer_is told d) tells
 reads_it reads.NoMemory told d tells = tt

@@ -27,10 +27,10 @@ unfoldable pub read_aig : List ℕ → Result Aig AigFault
 read_aig bytes = answer_to (read_file bytes)
 
 -- it is answered, unless memory ran out
-abbrev pub Tells : AigRead → Told → Type 0
-Tells (reads.Aig v) told = Answer told (Ok v)
-Tells (reads.Fault fault) told = Answer told (Err fault)
-Tells reads.NoMemory told = Unit {0}
+abbrev pub TellsAig : AigRead → Told → Type 0
+TellsAig (reads.Aig v) told = Answer told (Ok v)
+TellsAig (reads.Fault fault) told = Answer told (Err fault)
+TellsAig reads.NoMemory told = Unit {0}
 
 -- a value or a fault is answered, unless memory ran out
 abbrev pub Reads : AigRead → Result Aig AigFault → Type 0

@@ -4,7 +4,7 @@ ghost use Rattle.gi_aiger.specs.Files.{aig_of, gates_line, shares, whole};
 ghost use Rattle.gi_aiger.specs.Levels.{IsDistinct};
 ghost use Rattle.gi_aiger.specs.Machine.{IsFit, answer, answer_now, answer_of};
 ghost use Rattle.gi_aiger.specs.Taking.{IsBounded};
-ghost use Rattle.gi_aiger.specs.Answers.{IsCycleAt, Reads, Tells};
+ghost use Rattle.gi_aiger.specs.Answers.{IsCycleAt, Reads, TellsAig};
 ghost use Rattle.gi_aiger.specs.declared.read.AigRead.TheVariants as reads;
 ghost use Rattle.gi_aiger.specs.declared.fault.AigCode.TheVariants as codes;
 ghost use Rattle.std.specs.Prelude.{◌≤◌, Err};
@@ -177,7 +177,7 @@ fn cycle_at(taken: &Taken, place: usize) -> AigRead
 // What the machine says.
 fn judge(machine: Machine) -> AigRead
     requires fit { IsFit machine }
-    ensures { IsDistinct (answer_now machine).gates → Tells result (answer_now machine) }
+    ensures { IsDistinct (answer_now machine).gates → TellsAig result (answer_now machine) }
 {
     match first_cycle(machine.alloc, machine.taken.gates.as_slice()) {
         Err(_) => AigRead::NoMemory,
@@ -190,7 +190,7 @@ fn judge(machine: Machine) -> AigRead
 #[tactic(auto, unfolding(crate::specs::Machine::answer))]
 pub fn read_off(machine: Machine) -> AigRead
     requires fit { IsFit machine }
-    ensures { IsDistinct (answer machine).gates → Tells result (answer machine) }
+    ensures { IsDistinct (answer machine).gates → TellsAig result (answer machine) }
 {
     let mut machine = machine;
     match end_last(&mut machine) {

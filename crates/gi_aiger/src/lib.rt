@@ -36,7 +36,7 @@ pub use laws::{
     used_and_undefined, written_is_read,
 };
 pub use limits::MOST_ITEMS;
-pub use lists::{EdgeLists, Edges, Gates, Items, Latches, Symbols};
+pub use lists::{EdgeLists, Edges, Gates, Latches, Symbols};
 pub use read::AigRead;
 pub use reader::AigReader;
 pub use table::Table;

@@ -3,7 +3,7 @@ ghost use Rattle.std.specs.Prelude.{◌≡◌, ◌++◌, [], ℕ, List, OnOk, On
 ghost use Rattle.gi_aiger.specs.Files.{read_file};
 ghost use Rattle.gi_aiger.specs.Levels.{IsDistinct};
 ghost use Rattle.gi_aiger.specs.Machine.{IsFit, run, answer, take_byte};
-ghost use Rattle.gi_aiger.specs.Answers.{Reads, Tells, read_aig};
+ghost use Rattle.gi_aiger.specs.Answers.{Reads, TellsAig, read_aig};
 ghost use Rattle.gi_aiger.specs.Saying.{IsSaid};
 ghost use Rattle.gi_aiger.specs.declared.read.AigRead.TheVariants as reads;
 
@@ -68,7 +68,7 @@ impl AigReader {
     /// A value is what these bytes say; where there is a fault, they say none.
     /// `NoMemory` comes where a `feed` answered an error; else it is want of memory here.
     pub fn finish(self) -> AigRead
-        ensures read { (bytes : List ℕ) → HasRead self bytes → Tells result (read_file bytes) }
+        ensures read { (bytes : List ℕ) → HasRead self bytes → TellsAig result (read_file bytes) }
         ensures aig { (bytes : List ℕ) → HasRead self bytes → Reads result (read_aig bytes) }
         ensures said { (bytes : List ℕ) → HasRead self bytes → IsSaid result bytes }
         ensures broken { self.broken ≡ true → result ≡ reads.NoMemory }
