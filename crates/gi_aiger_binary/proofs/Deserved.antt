@@ -18,7 +18,7 @@ use Rattle.gi_aiger.proofs.Limiting.{are_within}
 use Rattle.gi_aiger.proofs.Sounding.{variables_are, defining_all}
 use Rattle.gi_aiger_binary.specs.Numbered.{AreSymbols, head_of_aig, IsInLimits}
 use Rattle.gi_aiger_binary.specs.Renumbering.{variables_of}
-use Rattle.gi_aiger_binary.specs.Sound.{IsSound, IsWritable}
+use Rattle.gi_aiger_binary.specs.Sound.{IsReadable, IsWritable}
 use Rattle.gi_aiger_binary.proofs.InOrder.{var_at}
 use Rattle.gi_aiger_binary.proofs.Numberings.{map-map}
 
@@ -117,7 +117,7 @@ module _ (v : Aig) (g : good.IsGood v) where
         symbols = symbols_are v v.symbols [] g.titles g.apart;
       }
 
-  sound : IsSound v
+  sound : IsReadable v
   sound = record {
     inputs = λ k d lt. (let i = inputs_defining k d lt in (i.0, i.1));
     latches = λ k d lt. (let i = latches_defining k d lt in (i.0, i.1));
@@ -126,5 +126,5 @@ module _ (v : Aig) (g : good.IsGood v) where
     limits = limits;
   }
 
-  pub good_writable : IsWritable v × IsSound v
+  pub good_writable : IsWritable v × IsReadable v
   good_writable = (writable, sound)

@@ -13,7 +13,7 @@ use Rattle.gi_aiger.specs.declared.head.Head.{Head}
 use Rattle.gi_aiger.specs.Levels.{gate_at}
 use Rattle.gi_aiger_binary.specs.Renumbering.{place_among, number_in, variables_of, literal_by, latch_by, gate_by, renumbered}
 use Rattle.gi_aiger_binary.specs.Numbered.{evens_from, AreWithin, IsFalling, IsNumbered, IsInLimits, AreSymbols, head_of_aig}
-use Rattle.gi_aiger_binary.specs.Sound.{IsDefining, IsSound}
+use Rattle.gi_aiger_binary.specs.Sound.{IsDefining, IsReadable}
 use Rattle.gi_aiger_binary.proofs.Numbering.{number_bound}
 use Rattle.gi_aiger_binary.proofs.InOrder.{IsByLevel, places_inside}
 use Rattle.gi_aiger_binary.proofs.Renumbered.{length-ordered, length-variables}
@@ -43,7 +43,7 @@ literals_within : (vs ls : List ℕ) → AreWithin (length vs) (map (literal_by 
 literals_within vs [] = tt
 literals_within vs (l ∷ ls) = (bound_from (number_in vs (l / 2)) (length vs) l (number_bound vs (l / 2)), literals_within vs ls)
 
-module _ (v : Aig) (ordered : List AndGate) (o : IsByLevel v.gates ordered) (s : IsSound v) where
+module _ (v : Aig) (ordered : List AndGate) (o : IsByLevel v.gates ordered) (s : IsReadable v) where
   abbrev vs : List ℕ
   vs = variables_of v ordered
 

@@ -11,7 +11,7 @@ use Rattle.gi_aiger.specs.Levels.{gate_at}
 use Rattle.gi_aiger.specs.Places.{AreLevels, variable_level}
 use Rattle.gi_aiger.proofs.Resolving.{gates_have_levels}
 use Rattle.gi_aiger_binary.specs.Renumbering.{place_among, number_in, variables_of, literal_by, gate_by, renumbered, in_order, numbered_anew}
-use Rattle.gi_aiger_binary.specs.Sound.{IsSound, IsWritable}
+use Rattle.gi_aiger_binary.specs.Sound.{IsReadable, IsWritable}
 use Rattle.gi_aiger_binary.proofs.InOrder.{var_at, IsByLevel, ordered_is}
 use Rattle.gi_aiger_binary.proofs.Renumbered.{length-variables}
 use Rattle.gi_aiger_binary.proofs.Placing.{place_at, gates_permuted}
@@ -37,7 +37,7 @@ either_order f a b = elim (cases_lt a b) [
       ap (λ (x : ℕ). max (f (x / 2)) (f (min a b / 2))) m ∙ ap (λ (x : ℕ). max (f (a / 2)) (f (x / 2))) n)
 ]
 
-module _ (v : Aig) (ordered : List AndGate) (o : IsByLevel v.gates ordered) (s : IsSound v) where
+module _ (v : Aig) (ordered : List AndGate) (o : IsByLevel v.gates ordered) (s : IsReadable v) where
   abbrev vs : List ℕ
   vs = variables_of v ordered
 
@@ -137,6 +137,6 @@ module _ (v : Aig) (ordered : List AndGate) (o : IsByLevel v.gates ordered) (s :
       ap (renumbered (renumbered v ordered)) (in_place gs w.apart w.levels (levels_in_order (variable_level gs) are.0))
       ∙ fixed (renumbered v ordered) (is_numbered v ordered o s)
 
-pub numbers_stay : (v : Aig) → IsWritable v → IsSound v → numbered_anew (numbered_anew v) ≡ numbered_anew v
+pub numbers_stay : (v : Aig) → IsWritable v → IsReadable v → numbered_anew (numbered_anew v) ≡ numbered_anew v
 numbers_stay v w sound =
     stays v (in_order v.gates) (ordered_is v.gates w.apart w.levels) sound (good_writable (numbered_anew v) (numbered_good v w sound).0).0

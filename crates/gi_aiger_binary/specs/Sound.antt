@@ -19,7 +19,7 @@ abbrev pub IsDefining : ℕ → Type 0
 IsDefining l = (l % 2 ≡ 0) × (2 ≤ l)
 
 -- no variable is defined twice, and the counts are within the limits
-pub record IsSound (v : Aig) : Type 0 where
+pub record IsReadable (v : Aig) : Type 0 where
   pub inputs : All IsDefining v.inputs
   pub latches : All (λ (l : Latch). IsDefining l.lit) v.latches
   pub gates : All (λ (g : AndGate). IsDefining g.lhs) v.gates

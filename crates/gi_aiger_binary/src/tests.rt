@@ -1,5 +1,5 @@
 ghost use Rattle.std.specs.Prelude.{IfOk, IfSome};
-ghost use Rattle.gi_aiger_binary.specs.Sound.{IsSound, IsWritable};
+ghost use Rattle.gi_aiger_binary.specs.Sound.{IsReadable, IsWritable};
 
 use crate::differences::put_difference;
 use crate::{good_is_writable, numbered_is_good, renumber, write_binary};
@@ -39,7 +39,7 @@ const ROWS: [(&[u8], &[u8], &[u8]); 5] = [
 
 // The value that a file says, if it says one.
 fn value_of(alloc: Global, text: &[u8]) -> Result<Option<Aig>, AllocError>
-    ensures { IfOk result (λ value. IfSome value (λ v. IsWritable v × IsSound v)) }
+    ensures { IfOk result (λ value. IfSome value (λ v. IsWritable v × IsReadable v)) }
 {
     said_is_good();
     good_is_writable();

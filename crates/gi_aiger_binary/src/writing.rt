@@ -2,7 +2,7 @@
 ghost use Rattle.std.specs.Prelude.{◌≡◌, ◌++◌, OnOk, IfOk};
 ghost use Rattle.std.specs.List.{flat_map};
 ghost use Rattle.gi_aiger_binary.specs.Texts.{binary_text, front_text, gate_text, latch_line, lines_text};
-ghost use Rattle.gi_aiger_binary.specs.Sound.{IsSound, IsWritable};
+ghost use Rattle.gi_aiger_binary.specs.Sound.{IsReadable, IsWritable};
 ghost use Rattle.gi_aiger_binary.specs.Written.{AreReadBack, written};
 
 use crate::differences::put_difference;
@@ -93,7 +93,7 @@ fn text_of(alloc: Global, aig: &Aig) -> Result<Bytes, AllocError>
 pub fn write_binary(alloc: Global, aig: &Aig) -> Result<Bytes, AllocError>
     requires { IsWritable aig.now }
     ensures text { IfOk result (λ bytes. bytes ≡ written aig.now) }
-    ensures read { IsSound aig.now → IfOk result (AreReadBack aig.now) }
+    ensures read { IsReadable aig.now → IfOk result (AreReadBack aig.now) }
 {
     let numbered = renumber(alloc, aig)?;
     text_of(alloc, &numbered)
