@@ -3,7 +3,7 @@ use Rattle.std.specs.List.{slice_get, count_by}
 use Rattle.std.proofs.lemmas.List.{take-append-drop}
 use Rattle.std.proofs.lemmas.List.Sums.{sum_by-append}
 use Rattle.std.proofs.Math.Seq.{take-append_seam}
-use Rattle.gi_circuit.specs.Nodes.{Parts, is_gate, IsPlaced, IsOrdered, HasNoTwins, IsSound, with_input, with_latch, gate_from, entries_from}
+use Rattle.gi_circuit.specs.Nodes.{Parts, is_gate, IsPlaced, IsOrdered, HasNoTwins, AreNodesSound, with_input, with_latch, gate_from, entries_from}
 use Rattle.gi_circuit.specs.declared.node.Node.{Node}
 use Rattle.gi_circuit.specs.declared.node.Node.TheVariants.{Input, Latch, Gate}
 use Rattle.gi_circuit.proofs.Gates.{HasNoTwins-push, IsOrdered-push, slice_get-push}
@@ -29,7 +29,7 @@ HasNoTwins-other ns g none h = record { each = λ i j c d x y. go i j c d (slice
 counted : (ns : List Node) (g : Node) → count_by is_gate (ns ++ g ∷ []) ≡ count_by is_gate ns + (0 + cond (is_gate g) 1 0)
 counted ns g = sum_by-append (λ x. cond (is_gate x) 1 0) ns (g ∷ [])
 
-pub IsSound-input : (c : Parts) → IsSound c → length c.nodes + 1 < 2 ^ 31 → IsSound (with_input c)
+pub IsSound-input : (c : Parts) → AreNodesSound c → length c.nodes + 1 < 2 ^ 31 → AreNodesSound (with_input c)
 IsSound-input c s room = record {
   ordered = IsOrdered-push (c.inputs + 1) c.latches c.nodes (Input c.inputs) (IsOrdered-more c.inputs (c.inputs + 1) c.latches c.latches c.nodes (omega arith) (omega arith) s.ordered) (let lt : c.inputs < c.inputs + 1 = omega arith in lt);
   no_twins = HasNoTwins-other c.nodes (Input c.inputs) (λ a b e. cc) s.no_twins;
@@ -37,7 +37,7 @@ IsSound-input c s room = record {
   small = omega (arith, room, length-append c.nodes (Input c.inputs ∷ []));
 }
 
-pub IsSound-latch : (c : Parts) → IsSound c → length c.nodes + 1 < 2 ^ 31 → IsSound (with_latch c)
+pub IsSound-latch : (c : Parts) → AreNodesSound c → length c.nodes + 1 < 2 ^ 31 → AreNodesSound (with_latch c)
 IsSound-latch c s room = record {
   ordered = IsOrdered-push c.inputs (c.latches + 1) c.nodes (Latch c.latches) (IsOrdered-more c.inputs c.inputs c.latches (c.latches + 1) c.nodes (omega arith) (omega arith) s.ordered) (let lt : c.latches < c.latches + 1 = omega arith in lt);
   no_twins = HasNoTwins-other c.nodes (Latch c.latches) (λ a b e. cc) s.no_twins;
@@ -45,7 +45,7 @@ IsSound-latch c s room = record {
   small = omega (arith, room, length-append c.nodes (Latch c.latches ∷ []));
 }
 
-pub IsSound-gate : (c : Parts) (a b : ℕ) → IsSound c → IsPlaced c.inputs c.latches (length c.nodes) (Gate a b) → gate_from 1 c.nodes a b ≡ None → length c.nodes + 1 < 2 ^ 31 → IsSound (record c { nodes = c.nodes ++ Gate a b ∷ [] })
+pub IsSound-gate : (c : Parts) (a b : ℕ) → AreNodesSound c → IsPlaced c.inputs c.latches (length c.nodes) (Gate a b) → gate_from 1 c.nodes a b ≡ None → length c.nodes + 1 < 2 ^ 31 → AreNodesSound (record c { nodes = c.nodes ++ Gate a b ∷ [] })
 IsSound-gate c a b s placed none room = record {
   ordered = IsOrdered-push c.inputs c.latches c.nodes (Gate a b) s.ordered placed;
   no_twins = HasNoTwins-push c.nodes a b s.no_twins none;

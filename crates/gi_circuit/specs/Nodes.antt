@@ -46,7 +46,7 @@ pub record HasNoTwins (nodes : List Node) : Type 0 where
   pub each : (i j a b : ℕ) → slice_get nodes i ≡ Some (Gate a b) → slice_get nodes j ≡ Some (Gate a b) → i ≡ j
 
 -- what always holds of nodes
-pub record IsSound (c : Parts) : Type 0 where
+pub record AreNodesSound (c : Parts) : Type 0 where
   pub ordered : IsOrdered c
   pub no_twins : HasNoTwins c.nodes
   pub counted : c.inputs + c.latches + count_by is_gate c.nodes ≡ length c.nodes

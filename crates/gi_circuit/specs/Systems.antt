@@ -3,7 +3,7 @@ use Rattle.std.specs.Prelude.{◌≡◌, ℕ, zero, suc, ◌/◌, ◌^◌, ◌<�
 use Rattle.gi_aiger.specs.declared.aig.Reset.{Reset}
 use Rattle.gi_aiger.specs.declared.aig.Reset.TheVariants.{Zero, One, Free}
 use Rattle.gi_circuit.specs.Values.{value_in}
-use Rattle.gi_circuit.specs.Nodes.{Parts, no_parts, node_values, IsSound, with_input, with_latch, next_edge}
+use Rattle.gi_circuit.specs.Nodes.{Parts, no_parts, node_values, AreNodesSound, with_input, with_latch, next_edge}
 
 -- a circuit: each latch, by its place, has a reset and the edge of its next state
 pub record System : Type 0 where
@@ -39,7 +39,7 @@ pub record IsWired (s : System) : Type 0 where
 
 -- what always holds of a circuit
 pub record IsCircuit (s : System) : Type 0 where
-  pub net : IsSound s.parts
+  pub net : AreNodesSound s.parts
   pub wired : IsWired s
 
 -- what the latches begin with: the free ones take the values in order

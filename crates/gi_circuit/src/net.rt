@@ -1,5 +1,5 @@
 ghost use Rattle.std.specs.Prelude.{◌≡◌, ◌+◌, ◌/◌, ◌^◌, ◌<◌, ◌≤◌, length, take, IfOk, OnOk, OnErr};
-ghost use Rattle.gi_circuit.specs.Nodes.{Parts, no_parts, IsSound, node_values, and_in, IsMade, with_input, with_latch, next_edge};
+ghost use Rattle.gi_circuit.specs.Nodes.{Parts, no_parts, AreNodesSound, node_values, and_in, IsMade, with_input, with_latch, next_edge};
 
 use crate::fold::{fold, ordered};
 use crate::node::{Node, Pair};
@@ -21,13 +21,13 @@ pub struct Net {
 
 impl Model for Net {
     ghost use Rattle.std.specs.Prelude.{◌≡◌};
-    ghost use Rattle.gi_circuit.specs.Nodes.{Parts, IsSound, entries_from};
+    ghost use Rattle.gi_circuit.specs.Nodes.{Parts, AreNodesSound, entries_from};
 
     ghost Value = { Parts };
 
     ghost view = { λ c. record { inputs = c.inputs; latches = c.latches; nodes = c.nodes.items } };
 
-    ghost invariant = { λ c. IsSound (record { inputs = c.inputs; latches = c.latches; nodes = c.nodes.items }) × (c.pairs.entries ≡ entries_from 1 c.nodes.items) };
+    ghost invariant = { λ c. AreNodesSound (record { inputs = c.inputs; latches = c.latches; nodes = c.nodes.items }) × (c.pairs.entries ≡ entries_from 1 c.nodes.items) };
 }
 
 /// How many inputs, latches and nodes there are.
@@ -54,7 +54,7 @@ impl Net {
     /// How much there is. What is said of nodes holds: a gate stands behind its operands, and no pair stands
     /// twice.
     pub fn size(&self) -> Size
-        ensures sound { IsSound self.now }
+        ensures sound { AreNodesSound self.now }
         ensures size { result ≡ record { inputs = self.now.inputs; latches = self.now.latches; nodes = length self.now.nodes } }
     {
         Size {
@@ -123,7 +123,7 @@ impl Net {
 
     /// Takes back what was made since it had this size.
     pub fn truncate(&mut self, size: Size)
-        requires { IsSound (record { inputs = size.inputs; latches = size.latches; nodes = take size.nodes self.old.nodes }) }
+        requires { AreNodesSound (record { inputs = size.inputs; latches = size.latches; nodes = take size.nodes self.old.nodes }) }
         ensures { self.new ≡ record { inputs = size.inputs; latches = size.latches; nodes = take size.nodes self.old.nodes } }
     {
         self.nodes.truncate(size.nodes as usize);

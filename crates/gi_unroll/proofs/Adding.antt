@@ -7,14 +7,14 @@ use Rattle.std.proofs.lemmas.List.Sums.{sum_by-append}
 use Rattle.gi_circuit.specs.Systems.{System, IsCircuit}
 use Rattle.gi_circuit.specs.Frames.{Draft, Frames, edge_of, lit_of, inputs_along, latches_along, rebuilt_draft, frame_of}
 use Rattle.gi_circuit.specs.Encoding.{IsUnrolled}
-use Rattle.gi_unroll.specs.Frames.{most_of, top_after, with_frame, IsKept, KeepsEncoding, KeepsLiterals, IsNamed, NamesVariables, IsShort}
+use Rattle.gi_unroll.specs.Frames.{most_of, top_after, with_frame, IsUnrolling, KeepsEncoding, KeepsLiterals, IsNamed, NamesVariables, IsShort}
 use Rattle.gi_unroll.specs.Steps.{HasLiteral}
 use Rattle.gi_unroll.proofs.Steps.{Grows, edge_within, lit_known, All-longer, length-longer}
 use Rattle.gi_unroll.proofs.Drawing.{before, nodes_drawn, all_drawn, inputs_within, latches_drawn, begun_few}
 use Rattle.gi_unroll.proofs.Chosen.{rebuilt_choices}
 use Rattle.gi_unroll.proofs.Framing.{IsUnrolled-more, IsUnrolled-same, tells}
 
-module _ (s : System) (c : IsCircuit s) (f : Frames) (top n : ℕ) (kept : IsKept (record { system = s; frames = f; top = top })) (above : top < n) where
+module _ (s : System) (c : IsCircuit s) (f : Frames) (top n : ℕ) (kept : IsUnrolling (record { system = s; frames = f; top = top })) (above : top < n) where
   abbrev ending : Draft
   ending = rebuilt_draft s f n
 
@@ -59,7 +59,7 @@ module _ (s : System) (c : IsCircuit s) (f : Frames) (top n : ℕ) (kept : IsKep
       ]
 
   -- what frames keep
-  pub IsKept-frame : IsKept (with_frame (record { system = s; frames = f; top = top }) n)
+  pub IsKept-frame : IsUnrolling (with_frame (record { system = s; frames = f; top = top }) n)
   unfolding frame_of
   IsKept-frame =
       let r = nodes_drawn s c f top n kept above in

@@ -14,7 +14,7 @@ use Rattle.gi_circuit.specs.declared.node.Node.{Node}
 use Rattle.gi_circuit.specs.declared.node.Node.TheVariants.{Input, Latch, Gate}
 use Rattle.gi_circuit.proofs.Gates.{and_in-folded, and_in-gate}
 use Rattle.gi_unroll.specs.Steps.{choices_in, empty_draft, frames_of, HasChoices}
-use Rattle.gi_unroll.specs.Frames.{Unrolled, IsKept}
+use Rattle.gi_unroll.specs.Frames.{Unrolled, IsUnrolling}
 use Rattle.gi_unroll.specs.Choices.{read_choice, choice_of}
 use Rattle.gi_unroll.specs.Laws.{ValuesChoose}
 
@@ -123,7 +123,7 @@ no_choices : HasChoices [] 0
 unfolding choices_in
 no_choices = refl
 
-pub none_kept : (s : System) (d : Draft) (latches : List ℕ) → d ≡ empty_draft → IsKept (record { system = s; frames = frames_of d latches 0; top = 0 })
+pub none_kept : (s : System) (d : Draft) (latches : List ℕ) → d ≡ empty_draft → IsUnrolling (record { system = s; frames = frames_of d latches 0; top = 0 })
 none_kept s d latches e =
     let net = ap (λ (x : Draft). x.net) e in
     let lits = ap (λ (x : Draft). x.lits) e in

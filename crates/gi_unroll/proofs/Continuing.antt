@@ -8,7 +8,7 @@ use Rattle.gi_circuit.specs.Frames.{Frames, Framed, frame_of}
 use Rattle.gi_circuit.specs.Encoding.{Chooses, TellValues, inputs_at, free_at}
 use Rattle.gi_circuit.specs.declared.node.Node.{Node}
 use Rattle.gi_circuit.specs.declared.node.Node.TheVariants.{Input, Latch}
-use Rattle.gi_unroll.specs.Frames.{Unrolled, IsKept, TellList, TellsFrameAt, with_frame}
+use Rattle.gi_unroll.specs.Frames.{Unrolled, IsUnrolling, TellList, TellsFrameAt, with_frame}
 use Rattle.gi_unroll.specs.Laws.{FrameKeeps, FramesKeep, IsContinued, EarlierFramesStay, FramesContinue}
 use Rattle.gi_unroll.proofs.Encoding.{satisfies_left}
 use Rattle.gi_unroll.proofs.Adding.{IsKept-frame, literals_kept, encoding_kept, variables_named, few_clauses, fresh_of, made_of}

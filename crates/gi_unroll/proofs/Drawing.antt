@@ -8,7 +8,7 @@ use Rattle.gi_circuit.specs.declared.node.Node.TheVariants.{Input}
 use Rattle.gi_circuit.specs.Systems.{System, IsCircuit}
 use Rattle.gi_circuit.specs.Frames.{Draft, Frames, Along, reset_along, draft_of, latches_of, inputs_along, latches_along, rebuilt_draft}
 use Rattle.gi_unroll.specs.Steps.{IsReady, HasEdges, HasLiteral, along}
-use Rattle.gi_unroll.specs.Frames.{most_of, IsKept}
+use Rattle.gi_unroll.specs.Frames.{most_of, IsUnrolling}
 use Rattle.gi_unroll.proofs.Steps.{Grows, adds_none, Grows-trans, Grows-refl, AreEdges, AreEdges-none, AreEdges-inputs, AreEdges-resets, All-longer, length-longer, NodesMore, nodes_more}
 
 -- what stands before a frame
@@ -33,7 +33,7 @@ latches_first s f a e = ap (λ t. cond t (fold reset_along a s.resets) (record a
 pub latches_later : (s : System) (f : Frames) (a : Along) → f.made ≢ 0 → latches_of s f a ≡ record a { edges = f.latches }
 latches_later s f a ne = ap (λ t. cond t (fold reset_along a s.resets) (record a { edges = f.latches })) (ne_eqb f.made 0 ne)
 
-module _ (s : System) (c : IsCircuit s) (f : Frames) (top n : ℕ) (kept : IsKept (record { system = s; frames = f; top = top })) (above : top < n) where
+module _ (s : System) (c : IsCircuit s) (f : Frames) (top n : ℕ) (kept : IsUnrolling (record { system = s; frames = f; top = top })) (above : top < n) where
   -- the beginning of a frame
   pub record IsBegun (d : Draft) : Type 0 where
     pub ready : IsReady d

@@ -4,13 +4,13 @@ use Rattle.gi_circuit.specs.Nodes.{IsOrdered}
 use Rattle.gi_circuit.specs.Systems.{System, IsCircuit}
 use Rattle.gi_circuit.specs.Frames.{Draft, Frames, Along, edge_of, with_node, input_along, draft_of, latches_of, framed, inputs_along, latches_along, rebuilt_draft, frame_of}
 use Rattle.gi_unroll.specs.Steps.{IsReady, HasEdges, IsLonger, frames_of, along}
-use Rattle.gi_unroll.specs.Frames.{most_of, IsKept, IsFrame}
+use Rattle.gi_unroll.specs.Frames.{most_of, IsUnrolling, IsFrame}
 use Rattle.gi_unroll.specs.declared.frame.Frame.{Frame}
 use Rattle.gi_unroll.proofs.Steps.{All-longer, length-longer}
 use Rattle.gi_unroll.proofs.Drawing.{begun, latches_drawn, edges_begun, inputs_within, ordered, nodes_drawn, to_latches, all_drawn}
 
 -- the code's steps are the definition's
-module _ (s : System) (c : IsCircuit s) (start : Draft) (latches : List ℕ) (made top n : ℕ) (kept : IsKept (record { system = s; frames = frames_of start latches made; top = top })) (above : top < n) where
+module _ (s : System) (c : IsCircuit s) (start : Draft) (latches : List ℕ) (made top n : ℕ) (kept : IsUnrolling (record { system = s; frames = frames_of start latches made; top = top })) (above : top < n) where
   abbrev f : Frames
   f = frames_of start latches made
 

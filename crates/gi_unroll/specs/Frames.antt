@@ -36,7 +36,7 @@ abbrev pub with_frame : Unrolled → ℕ → Unrolled
 with_frame u n = record u { frames = (frame_of u.system u.frames n).frames; top = top_after u.top n (frame_of u.system u.frames n).fresh }
 
 -- what frames have: a literal for each node, one node for each choice, and the edges of the next latch states
-pub record IsKept (u : Unrolled) : Type 0 where
+pub record IsUnrolling (u : Unrolled) : Type 0 where
   pub start : u.frames.made ≡ 0 → (u.frames.net ≡ []) × (u.frames.lits ≡ [])
   pub lits : length u.frames.lits ≤ u.top
   pub choices : HasChoices u.frames.net u.frames.choices

@@ -5,7 +5,7 @@ use Rattle.gi_circuit.specs.Systems.{System, IsCircuit}
 use Rattle.gi_circuit.specs.Frames.{Frames, Framed, frame_of}
 use Rattle.gi_circuit.specs.declared.node.Node.{Node}
 use Rattle.gi_circuit.specs.Encoding.{Chooses, IsUnrolled}
-use Rattle.gi_unroll.specs.Frames.{Unrolled, most_of, with_frame, IsKept, KeepsEncoding, KeepsLiterals, NamesVariables, IsShort, TellsFrame, TellsFrameAt}
+use Rattle.gi_unroll.specs.Frames.{Unrolled, most_of, with_frame, IsUnrolling, KeepsEncoding, KeepsLiterals, NamesVariables, IsShort, TellsFrame, TellsFrameAt}
 use Rattle.gi_unroll.specs.Choices.{choice_of}
 use Rattle.gi_unroll.specs.Steps.{HasLiteral}
 
@@ -22,7 +22,7 @@ ExtensionsAreOne = (s : System) (clauses : List (List ℕ)) (top : ℕ) (f : Fra
 
 -- what the next frame keeps, where its variables begin above those that the frames before took
 pub record FrameKeeps (u : Unrolled) (n : ℕ) : Type 0 where
-  pub kept : IsKept (with_frame u n)
+  pub kept : IsUnrolling (with_frame u n)
   pub encoding : KeepsEncoding u n
   pub literals : KeepsLiterals u n
   pub names : NamesVariables u n
@@ -32,7 +32,7 @@ pub record FrameKeeps (u : Unrolled) (n : ℕ) : Type 0 where
 
 -- so it is for each circuit and all that frames have
 abbrev pub FramesKeep : Type 0
-FramesKeep = (u : Unrolled) (n : ℕ) → IsCircuit u.system → IsKept u → u.top < n → FrameKeeps u n
+FramesKeep = (u : Unrolled) (n : ℕ) → IsCircuit u.system → IsUnrolling u → u.top < n → FrameKeeps u n
 
 -- frames with perhaps more behind them: nodes and literals were only put behind those there were
 pub record IsContinued (old new : Frames) : Type 0 where
@@ -46,8 +46,8 @@ EarlierFramesStay = (s : System) (clauses more : List (List ℕ)) (old new : Fra
 
 -- a frame that was just made has its values, and the next frame continues all frames so far
 abbrev pub FramesContinue : Type 0
-FramesContinue = (u : Unrolled) (n : ℕ) → IsCircuit u.system → IsKept u → 0 < u.frames.made → u.top < n → IsContinued u.frames (with_frame u n).frames
+FramesContinue = (u : Unrolled) (n : ℕ) → IsCircuit u.system → IsUnrolling u → 0 < u.frames.made → u.top < n → IsContinued u.frames (with_frame u n).frames
 
 -- values choose: of all values a choice of inputs and free latches can be read
 abbrev pub ValuesChoose : Type 0
-ValuesChoose = (u : Unrolled) → IsKept u → (values : List Bool) → Chooses u.frames.net u.frames.lits (choice_of values u.frames.net u.frames.lits) values
+ValuesChoose = (u : Unrolled) → IsUnrolling u → (values : List Bool) → Chooses u.frames.net u.frames.lits (choice_of values u.frames.net u.frames.lits) values

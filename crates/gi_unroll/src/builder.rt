@@ -1,6 +1,6 @@
 //! What frames make: the shared circuit, its literals, and the clauses of the frame that is being made.
 ghost use Rattle.std.specs.Prelude.{◌≡◌, ◌==◌, ◌+◌, ◌-◌, ◌*◌, ◌/◌, ◌<◌, ◌≤◌, ◌∷◌, ◌++◌, [], length, take, map, fold, count_by, All, IfOk, OnOk, OnErr, if◌then◌else◌};
-ghost use Rattle.gi_circuit.specs.Nodes.{IsPlaced, IsOrdered, IsSound, is_gate};
+ghost use Rattle.gi_circuit.specs.Nodes.{IsPlaced, IsOrdered, AreNodesSound, is_gate};
 ghost use Rattle.gi_circuit.specs.Frames.{Draft, lit_of, edge_of, with_choice, with_gate, with_node, input_along, reset_along, draft_of};
 ghost use Rattle.gi_unroll.specs.Steps.{empty_draft, parts_of, frames_of, along, defined, IsReady, HasEdges, IsLonger};
 ghost use Rattle.gi_lit.specs.Literals.{max_var};
@@ -59,7 +59,7 @@ impl Builder {
 
     /// How much there is.
     pub(crate) fn extent(&self) -> Extent
-        ensures sound { IsSound (parts_of self.now) }
+        ensures sound { AreNodesSound (parts_of self.now) }
         ensures extent { result ≡ record { net = record { inputs = self.now.choices; latches = 0; nodes = length self.now.net }; lits = length self.now.lits } }
     {
         Extent {
@@ -71,7 +71,7 @@ impl Builder {
     /// Takes back what was made since there was this much.
     pub(crate) fn cut(&mut self, extent: Extent)
         requires latches { extent.net.latches ≡ 0 }
-        requires sound { IsSound (record { inputs = extent.net.inputs; latches = extent.net.latches; nodes = take extent.net.nodes self.old.net }) }
+        requires sound { AreNodesSound (record { inputs = extent.net.inputs; latches = extent.net.latches; nodes = take extent.net.nodes self.old.net }) }
         ensures net { self.new.net ≡ take extent.net.nodes self.old.net }
         ensures choices { self.new.choices ≡ extent.net.inputs }
         ensures lits { self.new.lits ≡ take extent.lits self.old.lits }

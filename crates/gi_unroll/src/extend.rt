@@ -2,7 +2,7 @@
 ghost use Rattle.std.specs.Prelude.{◌≡◌, ℕ, ◌+◌, ◌/◌, ◌<◌, ◌≤◌, [], length, map, All, IfOk, OnOk, OnErr};
 ghost use Rattle.gi_circuit.specs.Frames.{lit_of, edge_of, input_along, latches_of, framed, frame_of};
 ghost use Rattle.gi_unroll.specs.Steps.{frames_of, along, IsReady, HasEdges, IsLonger};
-ghost use Rattle.gi_unroll.specs.Frames.{IsKept, most_of, IsFrame};
+ghost use Rattle.gi_unroll.specs.Frames.{IsUnrolling, most_of, IsFrame};
 ghost use Rattle.gi_lit.specs.Literals.{max_var};
 
 use crate::builder::Builder;
@@ -33,7 +33,7 @@ pub(crate) fn extend(
     made: u32,
     n: u32,
 ) -> Result<Extended, AllocError>
-    requires kept { (top : ℕ) × (top < n) × IsKept (record { system = circuit.now; frames = frames_of builder.old latches.now made; top = top }) }
+    requires kept { (top : ℕ) × (top < n) × IsUnrolling (record { system = circuit.now; frames = frames_of builder.old latches.now made; top = top }) }
     requires room { n + most_of circuit.now ≤ max_var + 1 }
     ensures frame { IfOk result (λ x. IsFrame x.frame made (frame_of circuit.now (frames_of builder.old latches.now made) n)) }
     ensures frames { IfOk result (λ x. frames_of builder.new x.nexts.items (made + 1) ≡ (frame_of circuit.now (frames_of builder.old latches.now made) n).frames) }

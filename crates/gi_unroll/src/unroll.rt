@@ -1,7 +1,7 @@
 ghost use Rattle.std.specs.Prelude.{◌≡◌, ◌+◌, ◌<◌, ◌≤◌, [], IfOk, OnOk, OnErr};
 ghost use Rattle.gi_circuit.specs.Frames.{frame_of};
 ghost use Rattle.gi_circuit.specs.Encoding.{IsUnrolled};
-ghost use Rattle.gi_unroll.specs.Frames.{IsKept, Unrolled, unrolled, most_of, IsFrame, with_frame, top_after, KeepsEncoding, KeepsLiterals, NamesVariables, IsShort};
+ghost use Rattle.gi_unroll.specs.Frames.{IsUnrolling, Unrolled, unrolled, most_of, IsFrame, with_frame, top_after, KeepsEncoding, KeepsLiterals, NamesVariables, IsShort};
 ghost use Rattle.gi_lit.specs.Literals.{max_var};
 
 use crate::builder::Builder;
@@ -24,13 +24,13 @@ pub struct Unroll {
 
 impl Model for Unroll {
     ghost use Rattle.gi_unroll.specs.Steps.{frames_of};
-    ghost use Rattle.gi_unroll.specs.Frames.{Unrolled, IsKept};
+    ghost use Rattle.gi_unroll.specs.Frames.{Unrolled, IsUnrolling};
 
     ghost Value = { Unrolled };
 
     ghost view = { λ u. record { system = u.circuit; frames = frames_of u.builder u.latches.items u.made; top = u.top } };
 
-    ghost invariant = { λ u. IsKept (record { system = u.circuit; frames = frames_of u.builder u.latches.items u.made; top = u.top }) };
+    ghost invariant = { λ u. IsUnrolling (record { system = u.circuit; frames = frames_of u.builder u.latches.items u.made; top = u.top }) };
 }
 
 impl Unroll {
@@ -51,7 +51,7 @@ impl Unroll {
     /// The circuit.
     pub fn circuit(&self) -> &Circuit
         ensures circuit { result.now ≡ self.now.system }
-        ensures kept { IsKept self.now }
+        ensures kept { IsUnrolling self.now }
     {
         &self.circuit
     }

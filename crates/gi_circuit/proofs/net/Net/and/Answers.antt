@@ -4,7 +4,7 @@ use Rattle.gi_circuit.specs.Nodes.{Parts, Made, and_in, entries_from}
 use Rattle.gi_circuit.specs.declared.node.Pair.{Pair}
 use Rattle.gi_circuit.specs.declared.node.Node.{Node}
 use Rattle.gi_circuit.specs.declared.node.Node.TheVariants.{Gate}
-use Rattle.gi_circuit.specs.Nodes.{IsPlaced, IsSound}
+use Rattle.gi_circuit.specs.Nodes.{IsPlaced, AreNodesSound}
 use Rattle.indexmap.proofs.CallerLemmas.{insert_entry-new}
 use Rattle.gi_circuit.proofs.Gates.{lookup-entries, entries-push, folded_differ, and_in-folded, pair_placed, edge_fits, made_is, found_is}
 use Rattle.gi_circuit.proofs.Sound.{IsSound-gate}
@@ -37,7 +37,7 @@ invariant_of-self-2 c =
     subst (λ (p : Pair). IsPlaced c.self.inside.inputs c.self.inside.latches (length c.self.inside.nodes.items) (Gate p.low p.high)) (sym c.ordered-pair.ensures)
     (pair_placed c.self.inside.inputs c.self.inside.latches (length c.self.inside.nodes.items) c.args.a c.args.b (folded_differ c.args.a c.args.b (sym c.in_default.ensures)) (omega (arith, n, c.requires.first)) (omega (arith, n, c.requires.second))) in
     let number : c.len.result + 1 ≡ 1 + length c.self.inside.nodes.items = omega (arith, c.len.ensures, c.self.inside.nodes.ok.0) in (
-      subst (λ (z : List Node). IsSound (record { inputs = c.self.inside.inputs; latches = c.self.inside.latches; nodes = z })) (sym items) (IsSound-gate (record { inputs = c.self.inside.inputs; latches = c.self.inside.latches; nodes = c.self.inside.nodes.items }) c.ordered-pair.result.low c.ordered-pair.result.high c.self.invariant.0 placed (sym g) (omega (arith, n, c.requires.room))),
+      subst (λ (z : List Node). AreNodesSound (record { inputs = c.self.inside.inputs; latches = c.self.inside.latches; nodes = z })) (sym items) (IsSound-gate (record { inputs = c.self.inside.inputs; latches = c.self.inside.latches; nodes = c.self.inside.nodes.items }) c.ordered-pair.result.low c.ordered-pair.result.high c.self.invariant.0 placed (sym g) (omega (arith, n, c.requires.room))),
       c.in_ok-insert.ensures.entries
           ∙ insert_entry-new _ c.self.inside.pairs _ _ (sym c.in_default-get.ensures.value)
           ∙ ap (λ es. es ++ (c.ordered-pair.result, c.len.result + 1) ∷ []) c.self.invariant.1

@@ -1,7 +1,7 @@
 use Rattle.std.proofs.Common.{◌≡◌, ℕ, ◌+◌, ◌<◌, List, sym, ap, ◌∙◌, subst, arith}
 use Rattle.gi_circuit.specs.Frames.{Frames, frame_of}
 use Rattle.gi_unroll.specs.Steps.{frames_of}
-use Rattle.gi_unroll.specs.Frames.{Unrolled, top_after, IsKept, KeepsEncoding, KeepsLiterals, NamesVariables, IsShort}
+use Rattle.gi_unroll.specs.Frames.{Unrolled, top_after, IsUnrolling, KeepsEncoding, KeepsLiterals, NamesVariables, IsShort}
 use Rattle.gi_unroll.specs.declared.frame.Frame.{Frame}
 use Rattle.gi_unroll.proofs.Adding.{IsKept-frame, literals_kept, encoding_kept, variables_named, few_clauses}
 use Rattle.gi_unroll.proofs.unroll.Unroll.frame.Goals as goal
@@ -15,8 +15,8 @@ invariant_of-self c =
     ap (λ (r : Frame). r.fresh) c.in-Ok.ensures.frame ∙ ap (λ (ls : List ℕ). (frame_of c.self.inside.circuit (frames_of c.self.inside.builder ls c.self.inside.made) c.args.next_var).fresh) c.deref.ensures.value in
     let top : c.top_after-self-inside.result ≡ top_after c.self.inside.top c.args.next_var (frame_of c.self.inside.circuit (frames_of c.self.inside.builder c.self.inside.latches.items c.self.inside.made) c.args.next_var).fresh =
     c.top_after-self-inside.ensures ∙ ap (top_after c.self.inside.top c.args.next_var) fresh in
-    subst (λ (z : Frames). IsKept (record { system = c.self.inside.circuit; frames = z; top = c.top_after-self-inside.result })) (sym frames)
-    (subst (λ (t : ℕ). IsKept (record { system = c.self.inside.circuit; frames = (frame_of c.self.inside.circuit (frames_of c.self.inside.builder c.self.inside.latches.items c.self.inside.made) c.args.next_var).frames; top = t })) (sym top)
+    subst (λ (z : Frames). IsUnrolling (record { system = c.self.inside.circuit; frames = z; top = c.top_after-self-inside.result })) (sym frames)
+    (subst (λ (t : ℕ). IsUnrolling (record { system = c.self.inside.circuit; frames = (frame_of c.self.inside.circuit (frames_of c.self.inside.builder c.self.inside.latches.items c.self.inside.made) c.args.next_var).frames; top = t })) (sym top)
     (IsKept-frame c.self.inside.circuit c.counts-counts.ensures.circuit (frames_of c.self.inside.builder c.self.inside.latches.items c.self.inside.made) c.self.inside.top c.args.next_var c.self.invariant above))
 
 pub returns-in-Ok-clause-encodes : goal.returns-in-Ok-clause-encodes
