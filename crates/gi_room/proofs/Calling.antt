@@ -17,7 +17,7 @@ use Rattle.gi_model.specs.Refusals.{is_work}
 use Rattle.gi_room.specs.Entries.{all_own_of, own_of}
 use Rattle.gi_room.specs.Seen.{Seen}
 use Rattle.gi_room.specs.Histories.{mark_of}
-use Rattle.gi_room.specs.Calls.{HoldsAsBefore, Adds, Heeds, looks_of, all_looks, Waits, IsOwnWork, Going, Called, Calls}
+use Rattle.gi_room.specs.Calls.{HoldsAsBefore, Adds, Heeds, looks_of, all_looks, Waits, IsOwnWork, InCall, Called, Calls}
 
 -- the last entry of a legal history was allowed
 pub legal_last : (es : List Entry) (e : Entry) (s : State) → IsLegalFrom s (es ++ e ∷ []) → Allows (after_all s es) e.call e.reply
@@ -67,7 +67,7 @@ calls_before n before others a b = filter-append (λ (x : Entry). (x.by == n) &&
 foreign_work : (old mid : Seen) (others : List Entry) → mid.held ≡ old.held → All (λ e. ¬ Contains mid.held e.by) others → All (λ e. Contains old.held e.by → IsOwnWork old e) others
 foreign_work old mid others same foreign = All-weaker (λ (e : Entry). ¬ Contains mid.held e.by) (λ (e : Entry). Contains old.held e.by → IsOwnWork old e) (λ e never has. absurd (never (subst (λ (ns : List ℕ). Contains ns e.by) (sym same) has))) others foreign
 
-pub going_none : (what : Call) (p : Seen) → Going what p p
+pub going_none : (what : Call) (p : Seen) → InCall what p p
 going_none what p = record {
   before = [];
   comes = record { works = All-nil (λ (e : Entry). Contains p.held e.by → IsOwnWork p e); no_call = refl; waits = inl refl };
@@ -77,7 +77,7 @@ going_none what p = record {
   looks = omega arith;
 }
 
-pub going_on : (what : Call) (old mid new : Seen) → Going what old mid → Waits what mid new → Going what old new
+pub going_on : (what : Call) (old mid new : Seen) → InCall what old mid → Waits what mid new → InCall what old new
 going_on what old mid new g w =
     let a = w.works.adds in
     let own : Entry = record { by = mid.number; call = call.Work w.works.mark; reply = w.answer } in
@@ -96,7 +96,7 @@ going_on what old mid new g w =
       looks = (let l = g.looks in let k = w.works.looks in let c = own_looks old.number g.before a.others own none g.holds.number in omega arith);
     }
 
-pub called : (what : Call) (answer : Reply) (old mid new : Seen) → Going what old mid → Adds what answer mid new → Called what answer old new
+pub called : (what : Call) (answer : Reply) (old mid new : Seen) → InCall what old mid → Adds what answer mid new → Called what answer old new
 called what answer old mid new g a =
     let own : ℕ → Entry = λ n. record { by = n; call = what; reply = answer } in
     let P : Entry → Type 0 = λ e. Contains old.held e.by → IsOwnWork old e in
@@ -120,7 +120,7 @@ calls_by : (what : Call) (answer : Reply) (old new : Seen) → answer ≢ reply.
 calls_by what reply.Spent old new never h = absurd (never refl)
 calls_by what answer old new never h = h
 
-pub calls : (what : Call) (answer : Reply) (old mid new : Seen) → Going what old mid → Adds what answer mid new → Calls what answer old new
+pub calls : (what : Call) (answer : Reply) (old mid new : Seen) → InCall what old mid → Adds what answer mid new → Calls what answer old new
 calls what answer old mid new g a =
     let own : Entry = record { by = mid.number; call = what; reply = answer } in
     let ok = legal_last (mid.history ++ a.others) own opening (subst (IsLegalFrom opening) (a.history ∙ sym (append_assoc mid.history a.others (own ∷ []))) a.legal.each) in

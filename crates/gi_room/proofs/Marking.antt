@@ -19,7 +19,7 @@ use Rattle.gi_turn.proofs.Numbers.{child_above}
 use Rattle.gi_turn.proofs.Views.{longer_is, has_first, has_rest, has_cases, has_none}
 use Rattle.gi_room.specs.Telling.{call_in, reply_in}
 use Rattle.gi_room.specs.Histories.{entry_in, history_in, mark_of, AreTurns, IsStarted}
-use Rattle.gi_room.specs.Seen.{Seen, seen_of, glance_of, IsKept, MayAsk}
+use Rattle.gi_room.specs.Seen.{Seen, seen_of, glance_of, IsPassView, MayAsk}
 use Rattle.gi_room.specs.Calls.{HasCauses, SolvesAreShort, glanced, split_left, split_right, Joins, HasGrown, SoleBut, IsClosed}
 use Rattle.gi_room.specs.Calls as calls
 
@@ -46,7 +46,7 @@ pub short : (history : List Entry) → bound.SolvesAreShort → IsLegal history 
 short history law legal es more by budget serial is quiet none =
     subst (λ (h : List Entry). IsShort (after_all opening es).problem.vars budget more (after_all opening h)) (sym is) (law es more by budget serial (subst IsLegal is legal) quiet none)
 
-pub kept_looked : (v w : View) (g : ℕ × ℕ) → IsKept v → w ≡ after_look v g → KnowsPhases w → IsKept w
+pub kept_looked : (v w : View) (g : ℕ × ℕ) → IsPassView v → w ≡ after_look v g → KnowsPhases w → IsPassView w
 kept_looked v w g k is phases = record {
   idle = ap (λ (y : View). y.turn) is ∙ k.idle;
   opened = ap (λ (y : View). y.opened) is ∙ k.opened;
@@ -56,8 +56,8 @@ kept_looked v w g k is phases = record {
   own = subst (λ (y : View). Contains y.held y.number) (sym is) k.own;
 }
 
-pub kept_asked : (v w : View) (mark : ℕ) → IsKept v → w ≡ after_ask v mark → IsKept w
-kept_asked v w mark k is = subst IsKept (sym is) record {
+pub kept_asked : (v w : View) (mark : ℕ) → IsPassView v → w ≡ after_ask v mark → IsPassView w
+kept_asked v w mark k is = subst IsPassView (sym is) record {
   idle = k.idle;
   opened = k.opened;
   turns = k.turns;
@@ -66,8 +66,8 @@ kept_asked v w mark k is = subst IsKept (sym is) record {
   marks = (k.marks.0, λ sole i e at some. let c = k.marks.1 sole i e at some in (c.0, c.1, Contains-append_left v.asked ((mark, length v.seen) ∷ []) (e.mark, c.0) c.2), k.marks.2);
 }
 
-pub kept_split : (v w : View) → IsKept v → w ≡ after_split v → IsKept w
-kept_split v w k is = subst IsKept (sym is) record {
+pub kept_split : (v w : View) → IsPassView v → w ≡ after_split v → IsPassView w
+kept_split v w k is = subst IsPassView (sym is) record {
   idle = k.idle;
   opened = k.opened;
   turns = k.turns;
@@ -76,8 +76,8 @@ kept_split v w k is = subst IsKept (sym is) record {
   marks = (k.marks.0, (λ sole. k.marks.1 (sole.0, λ n has. sole.1 n (has_rest (child v.number v.splits) v.kin n has))), (λ sole. k.marks.2 (sole.0, λ n has. sole.1 n (has_rest (child v.number v.splits) v.kin n has))));
 }
 
-pub kept_right : (v w : View) → IsKept v → w ≡ split_off v → IsKept w
-kept_right v w k is = subst IsKept (sym is) record {
+pub kept_right : (v w : View) → IsPassView v → w ≡ split_off v → IsPassView w
+kept_right v w k is = subst IsPassView (sym is) record {
   idle = k.idle;
   opened = k.opened;
   turns = k.turns;
@@ -103,7 +103,7 @@ longer_turns xs ys a b = go (longer_is xs ys)
     go (inl h) = subst (AreTurns opening) (sym h.0) b
     go (inr h) = subst (AreTurns opening) (sym h.0) a
 
-pub kept_joined : (v w u : View) → IsKept v → IsKept w → u ≡ join_of v w → KnowsPhases u → KnowsMarks MayAsk u → IsKept u
+pub kept_joined : (v w u : View) → IsPassView v → IsPassView w → u ≡ join_of v w → KnowsPhases u → KnowsMarks MayAsk u → IsPassView u
 kept_joined v w u k l is phases marks = record {
   idle = ap (λ (y : View). y.turn) is ∙ k.idle;
   opened = ap (λ (y : View). y.opened) is ∙ k.opened;

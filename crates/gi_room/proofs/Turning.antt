@@ -27,7 +27,7 @@ use Rattle.gi_turn.proofs.Views.{at_below}
 use Rattle.gi_model.proofs.Entering.{after_push, never_spent}
 use Rattle.gi_room.specs.Telling.{told_of, call_in}
 use Rattle.gi_room.specs.Histories.{entry_in, history_in, mark_of, phase_number, IsTurn, AreTurns, StandsFor}
-use Rattle.gi_room.specs.Seen.{Seen, seen_of, glance_of, phase_at, IsKept, MayAsk}
+use Rattle.gi_room.specs.Seen.{Seen, seen_of, glance_of, phase_at, IsPassView, MayAsk}
 use Rattle.gi_room.specs.Hearing.{greatest, Hears, Heard}
 use Rattle.gi_room.specs.Turning.{Worked, IsInTurn, Waited, Ended}
 use Rattle.gi_room.specs.Calls.{Names, Adds, Heeds, looks_of, Works, Helps, Waits}
@@ -61,7 +61,7 @@ module _ {T : Type 0} (stands : T → List Turn → Type 0) (v : View) (t : T) (
   pub no_fresh : w.fresh ≡ []
   no_fresh = ap (λ (y : View). y.fresh) h.view
 
-  pub has_turn : IsKept v → AreTurns opening w.seen → IsInTurn w
+  pub has_turn : IsPassView v → AreTurns opening w.seen → IsInTurn w
   has_turn kept turns = record {
     turn = ap (λ (y : View). y.turn) h.view;
     opened = ap (λ (y : View). y.opened) h.view ∙ kept.opened;
@@ -270,9 +270,9 @@ stands_new s is = record { turns = tt; state = is }
 at_nothing : (k : ℕ) (e : Turn) → At [] k e → ⊥
 at_nothing k e at = (let l = at_below [] k e at in omega arith)
 
-pub kept_new : (v : View) → v ≡ first_view 0 → IsKept v
+pub kept_new : (v : View) → v ≡ first_view 0 → IsPassView v
 unfolding AreTurns
-kept_new v is = subst IsKept (sym is) record {
+kept_new v is = subst IsPassView (sym is) record {
   idle = refl;
   opened = refl;
   turns = tt;

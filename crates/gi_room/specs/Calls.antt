@@ -104,7 +104,7 @@ pub record ComesBefore (what : Call) (old : Seen) (before : List Entry) : Type 0
   pub waits : (all_own_of old.number before ≡ []) ⊎ (what ≡ call.Wait)
 
 -- so far, before its own entry
-pub record Going (what : Call) (old now : Seen) : Type 0 where
+pub record InCall (what : Call) (old now : Seen) : Type 0 where
   pub before : List Entry
   pub comes : ComesBefore what old before
   pub history : now.history ≡ old.history ++ before
@@ -124,7 +124,7 @@ pub record Called (what : Call) (answer : Reply) (old new : Seen) : Type 0 where
 
 -- no call was left for its entry, or it was made
 abbrev pub Calls : Call → Reply → Seen → Seen → Type 0
-Calls what reply.Spent old new = Going what old new × (new.left ≡ 0) × IsLegal new.history
+Calls what reply.Spent old new = InCall what old new × (new.left ≡ 0) × IsLegal new.history
 Calls what answer old new = Called what answer old new
 
 -- whatever the state, the call takes no memory

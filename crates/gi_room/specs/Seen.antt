@@ -55,7 +55,7 @@ abbrev pub MayAsk : List Turn → ℕ → Type 0
 MayAsk log mark = IsStarted (history_in log) mark
 
 -- what a seat knows between its turns
-pub record IsKept (v : View) : Type 0 where
+pub record IsPassView (v : View) : Type 0 where
   pub idle : v.turn ≡ false
   pub opened : v.opened ≡ 0
   pub turns : AreTurns opening v.seen

@@ -12,7 +12,7 @@ use Rattle.gi_turn.specs.Views.{Sole}
 use Rattle.gi_room.specs.Telling.{told_of}
 use Rattle.gi_room.specs.Hearing.{Heard}
 use Rattle.gi_room.specs.Histories.{AreTurns, history_in, mark_of}
-use Rattle.gi_room.specs.Seen.{IsKept}
+use Rattle.gi_room.specs.Seen.{IsPassView}
 
 -- the seat has the turn, and knows what was done
 pub record IsInTurn (v : View) : Type 0 where
@@ -41,7 +41,7 @@ pub record Ended (what : Call) (answer : Reply) (v w : View) : Type 0 where
   pub phase : ℕ
   pub allowed : Allows (after_all opening (history_in v.seen)) what answer
   pub seen : w.seen ≡ v.seen ++ entry_of v.number phase (mark_of what) (told_of what answer) ∷ []
-  pub kept : IsKept w
+  pub kept : IsPassView w
   pub left : w.left ≡ v.left
   pub number : w.number ≡ v.number
   pub held : w.held ≡ v.held

@@ -2,15 +2,15 @@
 ghost use Rattle.std.specs.Prelude.{◌≡◌};
 ghost use Rattle.gi_turn.specs.Seats.{IsOf};
 
-use crate::engine::Engine;
+use crate::shared_core::SharedCore;
 use gi_cdcl::Brake;
 use gi_turn::{Seat, Turnstile};
 
 /// Looks at STOP for the seat whose turn it is.
 #[derive(Drop)]
 pub(crate) struct Ear<'a> {
-    pub turnstile: &'a Turnstile<Engine>,
-    pub seat: &'a mut Seat<Engine>,
+    pub turnstile: &'a Turnstile<SharedCore>,
+    pub seat: &'a mut Seat<SharedCore>,
     pub ghost of: { IsOf turnstile.now seat.now },
 }
 

@@ -7,15 +7,13 @@
 #![tactic(auto)]
 
 mod ear;
-mod engine;
 mod entry;
 mod gate;
 mod laws;
 mod pass;
 mod phases;
 mod room;
-#[cfg(test)]
-mod tests;
+mod shared_core;
 mod turn;
 mod worker;
 

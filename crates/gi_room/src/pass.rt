@@ -1,4 +1,4 @@
-use crate::engine::Engine;
+use crate::shared_core::SharedCore;
 use gi_model::solves_are_short;
 use gi_turn::Seat;
 use std::marker::Model;
@@ -7,19 +7,19 @@ use std::marker::Model;
 /// is of proofs alone. The calls of a pass that is dropped are lost.
 #[derive(Drop)]
 pub struct Pass {
-    pub(crate) seat: Seat<Engine>,
+    pub(crate) seat: Seat<SharedCore>,
 }
 
 impl Model for Pass {
     ghost use Rattle.gi_turn.specs.Seats.{view_of};
     ghost use Rattle.gi_turn.specs.Known.{place_of};
-    ghost use Rattle.gi_room.specs.Seen.{Seen, seen_of, IsKept};
+    ghost use Rattle.gi_room.specs.Seen.{Seen, seen_of, IsPassView};
 
     ghost Value = { Seen };
 
     ghost view = { λ p. seen_of (place_of p.seat) (view_of p.seat) };
 
-    ghost invariant = { λ p. IsKept (view_of p.seat) };
+    ghost invariant = { λ p. IsPassView (view_of p.seat) };
 }
 
 impl Pass {

@@ -7,9 +7,9 @@ ghost use Rattle.gi_room.specs.Seen.{new_pass};
 ghost use Rattle.gi_room.specs.Calls.{Adds, Calls, Helps, HoldsAsBefore, Joins, KnowsPhases, NeedsNoMemory, Waits, after_ask, glanced, split_left, split_right};
 ghost use Rattle.gi_model.specs.declared.phase.Phase.TheVariants as phase;
 
-use crate::engine::Engine;
 use crate::pass::Pass;
 use crate::phases::phase_of;
+use crate::shared_core::SharedCore;
 use crate::turn::{begin, make, work};
 use gi_core::Core;
 use gi_model::{Call, Phase, Reply};
@@ -21,7 +21,7 @@ use std::sync::Wait;
 /// One machine, which passes use in turns, under one history. Any number of threads may share it.
 #[derive(Drop)]
 pub struct Room {
-    turnstile: Turnstile<Engine>,
+    turnstile: Turnstile<SharedCore>,
 }
 
 impl Model for Room {
@@ -50,10 +50,10 @@ impl Room {
     pub fn open(alloc: Global) -> Result<(Room, Pass), AllocError>
         ensures { IfOk result (λ r. r.1 ≡ new_pass r.0) }
     {
-        let engine = Engine {
+        let shared = SharedCore {
             core: Core::new(alloc),
         };
-        let (turnstile, seat) = Turnstile::open(alloc, engine, 0)?;
+        let (turnstile, seat) = Turnstile::open(alloc, shared, 0)?;
         Ok((Room { turnstile }, Pass { seat }))
     }
 
@@ -65,12 +65,12 @@ impl Room {
         ensures { MatchOption result (Waits call.now pass.old pass.new)
             (λ r. Adds call.now r pass.old pass.new) }
     {
-        let engine = begin(rt, &self.turnstile, &mut pass.seat);
-        if must_work(call, &engine.core) {
-            let _reply = work(&self.turnstile, &mut pass.seat, engine);
+        let shared = begin(rt, &self.turnstile, &mut pass.seat);
+        if must_work(call, &shared.core) {
+            let _reply = work(&self.turnstile, &mut pass.seat, shared);
             return None;
         }
-        Some(make(&self.turnstile, &mut pass.seat, engine, call))
+        Some(make(&self.turnstile, &mut pass.seat, shared, call))
     }
 
     /// Makes a call that fits, waits for its turn, and answers as the machine does. The pass has then seen the entries that others
@@ -107,8 +107,8 @@ impl Room {
         if left == 0 {
             return Reply::Spent;
         }
-        let engine = begin(rt, &self.turnstile, &mut pass.seat);
-        work(&self.turnstile, &mut pass.seat, engine)
+        let shared = begin(rt, &self.turnstile, &mut pass.seat);
+        work(&self.turnstile, &mut pass.seat, shared)
     }
 
     /// How long the history is now, no less than the pass has seen, and the machine's phase after so many entries.

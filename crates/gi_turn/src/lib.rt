@@ -7,8 +7,6 @@ mod plays;
 mod rule;
 mod seat;
 mod stands;
-#[cfg(test)]
-mod tests;
 mod turnstile;
 mod view;
 mod words;
