@@ -9,8 +9,8 @@ use Rattle.gi_text.specs.Words.{words_of}
 use Rattle.gi_text.proofs.Dropping.{mapped, mapped_none, unwrapped, fed_whole, fed_cut}
 use Rattle.gi_wire.specs.declared.call.Kind.{Kind}
 use Rattle.gi_wire.specs.declared.call.Load.{Load}
-use Rattle.gi_wire.specs.declared.reader.Asked.TheVariants as asked
-use Rattle.gi_wire.specs.declared.reader.Item.{Item}
+use Rattle.gi_wire.specs.declared.reader.RequestKind.TheVariants as asked
+use Rattle.gi_wire.specs.declared.reader.Request.{Request}
 use Rattle.gi_wire.specs.Grammar.{Ask, Makes, Loads, ask_of}
 use Rattle.gi_wire.specs.Items.{Joined, Place, InLine, InLoad, alone, at_line, at_load, at_start, cut, cut_lines, goes_on_by, is_long, item, items_from, join, line_at_by, line_by, load_call, then_after}
 use Rattle.gi_wire.specs.Limits.{most_joined, most_line}
@@ -26,7 +26,7 @@ begins e line j begun (x ∷ xs) more h = elim (eqb_tells x 10) [
   | inr f ↦ rw f.0 (begins e line j (begun ++ x ∷ []) xs more (mapped_none (λ (p : List ℕ × List ℕ). (x ∷ p.0, p.1)) (line_at xs) (rw f.0 at h)) ∙ ap (λ zs. items_from e line (InLine j zs) more) (append_assoc begun (x ∷ []) xs))
 ]
 
-pub long_line : (line : ℕ) (j : Joined) (b : List ℕ) (next : ℕ → Place → List Item) → most_line < length b → at_line line j b next ≡ then_after j.first line asked.Long next
+pub long_line : (line : ℕ) (j : Joined) (b : List ℕ) (next : ℕ → Place → List Request) → most_line < length b → at_line line j b next ≡ then_after j.first line asked.Long next
 unfolding at_line
 long_line line j b next h = rw (lt-ltb most_line (length b) h) refl
 
@@ -38,26 +38,26 @@ or_false : (a b : Bool) → a ≡ false → b ≡ false → (a || b) ≡ false
 or_false a b h k = rw h k
 
 -- so are lines that have too many bytes together
-pub long_lines : (line : ℕ) (j : Joined) (b : List ℕ) (next : ℕ → Place → List Item) → most_joined < j.size + length b → at_line line j b next ≡ then_after j.first line asked.Long next
+pub long_lines : (line : ℕ) (j : Joined) (b : List ℕ) (next : ℕ → Place → List Request) → most_joined < j.size + length b → at_line line j b next ≡ then_after j.first line asked.Long next
 unfolding at_line
 long_lines line j b next h = ap (λ (t : Bool). cond t (then_after j.first line asked.Long next) (line_at_by (goes_on_by j.words (words_of b)) line j b next)) (or_true (nat_lt most_line (length b)) (nat_lt most_joined (j.size + length b)) (lt-ltb most_joined (j.size + length b) h))
 
 -- a line that isn't too long
-pub fit_line : (line : ℕ) (j : Joined) (b : List ℕ) (next : ℕ → Place → List Item) → length b ≤ most_line → j.size + length b ≤ most_joined → at_line line j b next ≡ line_at_by (goes_on_by j.words (words_of b)) line j b next
+pub fit_line : (line : ℕ) (j : Joined) (b : List ℕ) (next : ℕ → Place → List Request) → length b ≤ most_line → j.size + length b ≤ most_joined → at_line line j b next ≡ line_at_by (goes_on_by j.words (words_of b)) line j b next
 unfolding at_line
 fit_line line j b next h k = ap (λ (t : Bool). cond t (then_after j.first line asked.Long next) (line_at_by (goes_on_by j.words (words_of b)) line j b next)) (or_false (nat_lt most_line (length b)) (nat_lt most_joined (j.size + length b)) (le-ltb most_line (length b) h) (le-ltb most_joined (j.size + length b) k))
 
 -- one that goes on
-pub line_goes_on : (line : ℕ) (j : Joined) (b : List ℕ) (next : ℕ → Place → List Item) → length b ≤ most_line → j.size + length b ≤ most_joined → goes_on_by j.words (words_of b) ≡ true → at_line line j b next ≡ next (line + 1) (InLine (join j b) [])
+pub line_goes_on : (line : ℕ) (j : Joined) (b : List ℕ) (next : ℕ → Place → List Request) → length b ≤ most_line → j.size + length b ≤ most_joined → goes_on_by j.words (words_of b) ≡ true → at_line line j b next ≡ next (line + 1) (InLine (join j b) [])
 line_goes_on line j b next h k goes = fit_line line j b next h k ∙ ap (λ (t : Bool). line_at_by t line j b next) goes
 
 -- one that doesn't
-pub last_line_is : (line : ℕ) (j : Joined) (b : List ℕ) (o : Option Ask) (next : ℕ → Place → List Item) → length b ≤ most_line → j.size + length b ≤ most_joined → goes_on_by j.words (words_of b) ≡ false → ask_of (j.words ++ words_of b) ≡ o
+pub last_line_is : (line : ℕ) (j : Joined) (b : List ℕ) (o : Option Ask) (next : ℕ → Place → List Request) → length b ≤ most_line → j.size + length b ≤ most_joined → goes_on_by j.words (words_of b) ≡ false → ask_of (j.words ++ words_of b) ≡ o
     → at_line line j b next ≡ line_by j.first line o next
 last_line_is line j b o next h k goes is = fit_line line j b next h k ∙ ap (λ (t : Bool). line_at_by t line j b next) goes ∙ ap (λ (p : Option Ask). line_by j.first line p next) is
 
 -- a line alone that asks for something
-pub short_line : (line : ℕ) (b : List ℕ) (a : Ask) (next : ℕ → Place → List Item) → length b ≤ most_line → ask_of (words_of b) ≡ Some a → at_line line (alone line) b next ≡ line_by line line (Some a) next
+pub short_line : (line : ℕ) (b : List ℕ) (a : Ask) (next : ℕ → Place → List Request) → length b ≤ most_line → ask_of (words_of b) ≡ Some a → at_line line (alone line) b next ≡ line_by line line (Some a) next
 short_line line b a next h is = last_line_is line (alone line) b (Some a) next h (omega (arith, h)) (asks_end (words_of b) a is) is
 
 -- all lines that are too long are alike

@@ -15,11 +15,11 @@ use Rattle.gi_text.proofs.Dropping.{none_in_front}
 use Rattle.gi_wire.specs.declared.call.Kind.{Kind}
 use Rattle.gi_wire.specs.declared.call.Kind.TheVariants.{Cnf}
 use Rattle.gi_wire.specs.declared.call.Load.{Load}
-use Rattle.gi_wire.specs.declared.reader.Asked.{Asked}
-use Rattle.gi_wire.specs.declared.reader.Asked.TheVariants as asked
-use Rattle.gi_wire.specs.declared.reader.Given.{Given}
-use Rattle.gi_wire.specs.declared.reader.Given.TheVariants as given
-use Rattle.gi_wire.specs.declared.reader.Item.{Item}
+use Rattle.gi_wire.specs.declared.reader.RequestKind.{RequestKind}
+use Rattle.gi_wire.specs.declared.reader.RequestKind.TheVariants as asked
+use Rattle.gi_wire.specs.declared.reader.NextRequest.{NextRequest}
+use Rattle.gi_wire.specs.declared.reader.NextRequest.TheVariants as given
+use Rattle.gi_wire.specs.declared.reader.Request.{Request}
 use Rattle.gi_wire.specs.Gives.{AsksMemory, GoesOn, MayBeAsked, GivesItem, GivesLoad, GivesNext, SameAhead, TakesMemory, Waits, takes_memory}
 use Rattle.gi_wire.specs.Grammar.{Loads, Makes, ask_of, call_of, ends_plus, guard_at, guards_at, has_list, list_at, or_else, under_by, under_guards, under_one}
 use Rattle.gi_wire.specs.Holds.{HoldsLoad, HoldsLong}
@@ -42,7 +42,7 @@ some_joined [] some = absurd (omega arith)
 some_joined (w ∷ ws) some = refl
 
 -- a line, with those that go on in it, makes an item
-pub gives_line : (s t : Source) (new : Kept) (l : List ℕ) (what : Asked) → s.load ≡ None → GivesLine l s.lines new → ((next : ℕ → Place → List Item) → at_line s.line s.joined l next ≡ then_after s.joined.first s.line what next) → MayBeAsked what
+pub gives_line : (s t : Source) (new : Kept) (l : List ℕ) (what : RequestKind) → s.load ≡ None → GivesLine l s.lines new → ((next : ℕ → Place → List Request) → at_line s.line s.joined l next ≡ then_after s.joined.first s.line what next) → MayBeAsked what
     → t ≡ record { lines = new; line = s.line + 1; joined = alone (s.line + 1); load = None } → GivesItem (item s.joined.first what) s t
 unfolding ahead
 gives_line s t new l what none given makes may same =
@@ -84,7 +84,7 @@ cuts_lines s t j none left ended some empty same =
       ahead_is = λ e more comes.
           let now = comes ended in
           rw (now.0, now.1) (ahead_left s s.joined true none left ∙ lines_cut s.line s.joined some
-          ∙ ap (λ (is : List Item). item s.joined.first asked.Syntax ∷ is) (sym (ahead_left s j true none left ∙ nothing_behind true s.line j empty)));
+          ∙ ap (λ (is : List Request). item s.joined.first asked.Syntax ∷ is) (sym (ahead_left s j true none left ∙ nothing_behind true s.line j empty)));
       may_be = tt;
       ended = refl;
       fewer = omega (arith, some_joined s.joined.words some, ap is_joined empty);
@@ -92,7 +92,7 @@ cuts_lines s t j none left ended some empty same =
     })
 
 -- a line with a list makes an item that takes memory
-list_wants : (first line : ℕ) (words : List (List ℕ)) (next : ℕ → Place → List Item) → has_list words ≡ true → TakesMemory (line_by first line (ask_of words) next)
+list_wants : (first line : ℕ) (words : List (List ℕ)) (next : ℕ → Place → List Request) → has_list words ≡ true → TakesMemory (line_by first line (ask_of words) next)
 unfolding has_list ask_of call_of
 list_wants first line [] next h = let no : false ≡ true = h in cc
 list_wants first line (name ∷ words) next h = by_name (bytes_eq name (codes "add")) (bytes_eq name (codes "assume")) refl refl h where
@@ -147,17 +147,17 @@ and_right true b h = h
 and_right false b h = cc
 
 -- a line of that kind, where those that go on take memory
-flag_wants : (goes : Bool) (line : ℕ) (j : Joined) (b : List ℕ) (next : ℕ → Place → List Item) → goes_on_by j.words (words_of b) ≡ goes → has_list (j.words ++ words_of b) ≡ true
+flag_wants : (goes : Bool) (line : ℕ) (j : Joined) (b : List ℕ) (next : ℕ → Place → List Request) → goes_on_by j.words (words_of b) ≡ goes → has_list (j.words ++ words_of b) ≡ true
     → ((i : ℕ) (k : Joined) → has_list k.words ≡ true → TakesMemory (next i (InLine k []))) → TakesMemory (line_at_by goes line j b next)
 flag_wants true line j b next goes list more = more (line + 1) (join j b) (list_joined j.words (words_of b) list (and_right (has_list (j.words ++ words_of b)) (ends_plus (words_of b)) goes))
 flag_wants false line j b next goes list more = list_wants j.first line (j.words ++ words_of b) next list
 
-size_wants : (long : Bool) (line : ℕ) (j : Joined) (b : List ℕ) (next : ℕ → Place → List Item) → has_list (j.words ++ words_of b) ≡ true
+size_wants : (long : Bool) (line : ℕ) (j : Joined) (b : List ℕ) (next : ℕ → Place → List Request) → has_list (j.words ++ words_of b) ≡ true
     → ((i : ℕ) (k : Joined) → has_list k.words ≡ true → TakesMemory (next i (InLine k []))) → TakesMemory (cond long (then_after j.first line asked.Long next) (line_at_by (goes_on_by j.words (words_of b)) line j b next))
 size_wants true line j b next list more = refl
 size_wants false line j b next list more = flag_wants (goes_on_by j.words (words_of b)) line j b next refl list more
 
-line_takes : (line : ℕ) (j : Joined) (b : List ℕ) (next : ℕ → Place → List Item) → has_list (j.words ++ words_of b) ≡ true
+line_takes : (line : ℕ) (j : Joined) (b : List ℕ) (next : ℕ → Place → List Request) → has_list (j.words ++ words_of b) ≡ true
     → ((i : ℕ) (k : Joined) → has_list k.words ≡ true → TakesMemory (next i (InLine k []))) → TakesMemory (at_line line j b next)
 unfolding at_line
 line_takes line j b next list more = size_wants (is_long j b) line j b next list more
@@ -181,7 +181,7 @@ joined_wants e (b ∷ bs) line j begun list = elim (eqb_tells b 10) [
 pub line_wants : (s : Source) (new : Kept) (l : List ℕ) → s.load ≡ None → GivesLine l s.lines new → has_list (s.joined.words ++ words_of l) ≡ true → AsksMemory s
 unfolding ahead
 line_wants s new l none given list = record {
-  each = λ e more comes. subst (λ (is : List Item). TakesMemory is)
+  each = λ e more comes. subst (λ (is : List Request). TakesMemory is)
       (sym (ap (λ (o : Option Load). goes_on o s.joined s.line (λ i p. items_from e i p (s.lines.left ++ more))) none
       ∙ next_is e s.line s.joined s.lines new l more given comes))
       (line_takes s.line s.joined l (λ i p. items_from e i p (new.left ++ more)) list (λ i k h. joined_wants e (new.left ++ more) i k [] h));
@@ -249,7 +249,7 @@ load_wants s load under few there =
     let bytes : List ℕ = take load.len s.lines.left in
     let t : Source = record { lines = new; line = s.line + 1; joined = alone (s.line + 1); load = None } in
     record {
-      each = λ e more comes. subst (λ (is : List Item). TakesMemory is) (sym ((gives_load s t load bytes new under few there refl refl refl).ahead_is e more comes)) (by_kind load.kind bytes);
+      each = λ e more comes. subst (λ (is : List Request). TakesMemory is) (sym ((gives_load s t load bytes new under few there refl refl refl).ahead_is e more comes)) (by_kind load.kind bytes);
     } where
       by_kind : (kind : Kind) (bytes : List ℕ) → takes_memory (asked.Call (load_call kind bytes)) ≡ true
       by_kind Cnf bytes = refl
@@ -279,7 +279,7 @@ cuts_load s t load new under less ended rest same =
           rw (now.0, now.1) (ap (λ (o : Option Load). goes_on o s.joined s.line (λ j p. items_from true j p (s.lines.left ++ []))) under
           ∙ ap (λ (xs : List ℕ). at_load s.line load.kind [] load.len (λ j p. items_from true j p xs)) (append-nil s.lines.left)
           ∙ load_short true s.line load.kind s.lines.left load.len less
-          ∙ ap (λ (xs : List Item). item s.line asked.Syntax ∷ xs) (sym (ap (λ (xs : List ℕ). items_from true (s.line + 1) (at_start (s.line + 1)) (xs ++ [])) left ∙ nothing_ahead true (s.line + 1))));
+          ∙ ap (λ (xs : List Request). item s.line asked.Syntax ∷ xs) (sym (ap (λ (xs : List ℕ). items_from true (s.line + 1) (at_start (s.line + 1)) (xs ++ [])) left ∙ nothing_ahead true (s.line + 1))));
       may_be = tt;
       ended = ap (λ (k : Kept). k.ended) rest;
       fewer = omega (arith, ap under_way under, ap length left);
@@ -287,8 +287,8 @@ cuts_load s t load new under less ended rest same =
     })
 
 -- a step that changes nothing ahead, and then another
-pub after_same : (g : Given) (s m t : Source) → SameAhead s m → m.lines.ended ≡ s.lines.ended → most_items m ≤ most_items s → last_line m ≤ last_line s → GivesNext g m t → GivesNext g s t
-after_same (given.Item i) s m t same ended fewer count next = record {
+pub after_same : (g : NextRequest) (s m t : Source) → SameAhead s m → m.lines.ended ≡ s.lines.ended → most_items m ≤ most_items s → last_line m ≤ last_line s → GivesNext g m t → GivesNext g s t
+after_same (given.Request i) s m t same ended fewer count next = record {
   ahead_is = λ e more comes. sym (same.each e more comes) ∙ next.ahead_is e more (λ h. comes (sym ended ∙ h));
   may_be = next.may_be;
   ended = next.ended ∙ ended;
@@ -309,11 +309,11 @@ after_same given.Done s m t same ended fewer count next = (
 )
 after_same given.NoMemory s m t same ended fewer count next = (
   next.0 ∙ ended,
-  record { each = λ e more comes. subst (λ (is : List Item). TakesMemory is) (same.each e more comes) (next.1.each e more (λ h. comes (sym ended ∙ h))) },
+  record { each = λ e more comes. subst (λ (is : List Request). TakesMemory is) (same.each e more comes) (next.1.each e more (λ h. comes (sym ended ∙ h))) },
 )
 
-pub load_next : (g : Given) (s t : Source) → GivesLoad g s t → GivesNext g s t
-load_next (given.Item i) s t h = h
+pub load_next : (g : NextRequest) (s t : Source) → GivesLoad g s t → GivesNext g s t
+load_next (given.Request i) s t h = h
 load_next given.More s t h = h
 load_next given.Done s t h = absurd h
 load_next given.NoMemory s t h = h

@@ -4,9 +4,9 @@ use Rattle.std.proofs.lemmas.List.{append-nil}
 use Rattle.gi_text.specs.Lines.{line_at}
 use Rattle.gi_text.specs.Words.{words_of}
 use Rattle.gi_wire.specs.declared.call.Kind.{Kind}
-use Rattle.gi_wire.specs.declared.reader.Asked.{Asked}
-use Rattle.gi_wire.specs.declared.reader.Asked.TheVariants as asked
-use Rattle.gi_wire.specs.declared.reader.Item.{Item}
+use Rattle.gi_wire.specs.declared.reader.RequestKind.{RequestKind}
+use Rattle.gi_wire.specs.declared.reader.RequestKind.TheVariants as asked
+use Rattle.gi_wire.specs.declared.reader.Request.{Request}
 use Rattle.gi_wire.specs.Grammar.{Ask, Loads, Makes, ask_of, but_last, ends_plus, has_list}
 use Rattle.gi_wire.specs.Items.{InLine, InLoad, Joined, Place, alone, at_line, at_load, at_start, goes_on_by, is_long, item, items_from, join, line_at_by, line_by, load_call, then_after, then_next}
 use Rattle.gi_wire.specs.Laws.{BeginsLoad, CutLinesAreRefused, CutLoadsAreRefused, ItemsStay, LinesAreJoined, LoadsAreItems}
@@ -15,29 +15,29 @@ use Rattle.gi_wire.proofs.Plus.{list_joined, list_some}
 use Rattle.gi_wire.proofs.Reading.{both_of, last_line_is, line_first, line_goes_on, lines_cut, load_short, load_whole, short_line}
 
 -- the first items are a front of the second
-abbrev IsFront : List Item → List Item → Type 0
-IsFront few many = (more : List Item) × (many ≡ few ++ more)
+abbrev IsFront : List Request → List Request → Type 0
+IsFront few many = (more : List Request) × (many ≡ few ++ more)
 
 -- and so they are from every line and place on
-abbrev AreFronts : (ℕ → Place → List Item) → (ℕ → Place → List Item) → Type 0
+abbrev AreFronts : (ℕ → Place → List Request) → (ℕ → Place → List Request) → Type 0
 AreFronts few many = (line : ℕ) (place : Place) → IsFront (few line place) (many line place)
 
-after_stays : (first line : ℕ) (what : Asked) (few many : ℕ → Place → List Item) → AreFronts few many → IsFront (then_after first line what few) (then_after first line what many)
-after_stays first line what few many h = let rest = h (line + 1) (at_start (line + 1)) in (rest.0, ap (λ (is : List Item). item first what ∷ is) rest.1)
+after_stays : (first line : ℕ) (what : RequestKind) (few many : ℕ → Place → List Request) → AreFronts few many → IsFront (then_after first line what few) (then_after first line what many)
+after_stays first line what few many h = let rest = h (line + 1) (at_start (line + 1)) in (rest.0, ap (λ (is : List Request). item first what ∷ is) rest.1)
 
-load_stays : (line : ℕ) (kind : Kind) (got : List ℕ) (missing : ℕ) (few many : ℕ → Place → List Item) → AreFronts few many → IsFront (at_load line kind got missing few) (at_load line kind got missing many)
+load_stays : (line : ℕ) (kind : Kind) (got : List ℕ) (missing : ℕ) (few many : ℕ → Place → List Request) → AreFronts few many → IsFront (at_load line kind got missing few) (at_load line kind got missing many)
 unfolding at_load
 load_stays line kind got missing few many h = by_end (missing == 0) where
   by_end : (whole : Bool) → IsFront (cond whole (then_next line (asked.Call (load_call kind got)) few) (few line (InLoad kind got missing))) (cond whole (then_next line (asked.Call (load_call kind got)) many) (many line (InLoad kind got missing)))
   by_end true = after_stays line line (asked.Call (load_call kind got)) few many h
   by_end false = h line (InLoad kind got missing)
 
-asks_stays : (first line : ℕ) (o : Option Ask) (few many : ℕ → Place → List Item) → AreFronts few many → IsFront (line_by first line o few) (line_by first line o many)
+asks_stays : (first line : ℕ) (o : Option Ask) (few many : ℕ → Place → List Request) → AreFronts few many → IsFront (line_by first line o few) (line_by first line o many)
 asks_stays first line None few many h = after_stays first line asked.Syntax few many h
 asks_stays first line (Some (Makes call)) few many h = after_stays first line (asked.Call call) few many h
 asks_stays first line (Some (Loads kind len)) few many h = load_stays line kind [] len few many h
 
-line_stays : (line : ℕ) (j : Joined) (bytes : List ℕ) (few many : ℕ → Place → List Item) → AreFronts few many → IsFront (at_line line j bytes few) (at_line line j bytes many)
+line_stays : (line : ℕ) (j : Joined) (bytes : List ℕ) (few many : ℕ → Place → List Request) → AreFronts few many → IsFront (at_line line j bytes few) (at_line line j bytes many)
 unfolding at_line
 line_stays line j bytes few many h = by_length (is_long j bytes) (goes_on_by j.words (words_of bytes)) where
   by_length : (long goes : Bool) → IsFront (cond long (then_after j.first line asked.Long few) (line_at_by goes line j bytes few)) (cond long (then_after j.first line asked.Long many) (line_at_by goes line j bytes many))

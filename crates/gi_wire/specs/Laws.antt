@@ -3,8 +3,8 @@ use Rattle.std.specs.Prelude.{◌≡◌, ℕ, ◌+◌, ◌<◌, ◌≤◌, Bool,
 use Rattle.gi_text.specs.Lines.{line_at}
 use Rattle.gi_text.specs.Words.{words_of}
 use Rattle.gi_wire.specs.declared.call.Kind.{Kind}
-use Rattle.gi_wire.specs.declared.reader.Asked.TheVariants as asked
-use Rattle.gi_wire.specs.declared.reader.Item.{Item}
+use Rattle.gi_wire.specs.declared.reader.RequestKind.TheVariants as asked
+use Rattle.gi_wire.specs.declared.reader.Request.{Request}
 use Rattle.gi_wire.specs.Grammar.{Loads, ask_of, but_last}
 use Rattle.gi_wire.specs.Items.{at_start, goes_on_by, item, items, items_from, line_by, load_call}
 use Rattle.gi_wire.specs.Limits.{most_line}
@@ -18,7 +18,7 @@ pub record BeginsLoad (bytes : List ℕ) (kind : Kind) (len : ℕ) (behind : Lis
 
 -- items that are there stay, whatever follows
 abbrev pub ItemsStay : Type 0
-ItemsStay = (ended : Bool) (front back : List ℕ) → (more : List Item) × (items ended (front ++ back) ≡ items false front ++ more)
+ItemsStay = (ended : Bool) (front back : List ℕ) → (more : List Request) × (items ended (front ++ back) ≡ items false front ++ more)
 
 -- a load with its bytes is one item, and the next line begins right behind them
 abbrev pub LoadsAreItems : Type 0

@@ -2,7 +2,7 @@
 use Rattle.std.specs.Prelude.{◌≡◌, ℕ, ◌+◌, Bool, true, List, [], ◌∷◌, ◌++◌, length, Option, Some, None}
 use Rattle.gi_text.specs.Lines.{Kept}
 use Rattle.gi_wire.specs.declared.call.Load.{Load}
-use Rattle.gi_wire.specs.declared.reader.Item.{Item}
+use Rattle.gi_wire.specs.declared.reader.Request.{Request}
 use Rattle.gi_wire.specs.Items.{Joined, Place, InLine, at_load, items_from}
 
 pub record Source : Type 0 where
@@ -16,12 +16,12 @@ pub record Source : Type 0 where
   pub load : Option Load
 
 -- what comes behind the line of a load, or from a line on
-abbrev pub goes_on : Option Load → Joined → ℕ → (ℕ → Place → List Item) → List Item
+abbrev pub goes_on : Option Load → Joined → ℕ → (ℕ → Place → List Request) → List Request
 goes_on None joined line next = next line (InLine joined [])
 goes_on (Some load) joined line next = at_load line load.kind [] load.len next
 
 -- the items that come, where so many more bytes come and the input then ends or goes on
-unfoldable pub ahead : Source → Bool → List ℕ → List Item
+unfoldable pub ahead : Source → Bool → List ℕ → List Request
 ahead s ended more = goes_on s.load s.joined s.line (λ line place. items_from ended line place (s.lines.left ++ more))
 
 -- what may still come: nothing once the input has ended

@@ -15,9 +15,6 @@ pub use begun::MAX_JOINED;
 pub use call::{CallRead, Kind, read_call};
 pub use going_on::{may_go_on, plus_at};
 pub use laws::{answers_differ, items_stay, lines_are_joined, loads_are_items};
-pub use reader::{Asked, Given, Item, Reader};
+pub use reader::{NextRequest, Reader, Request, RequestKind};
 pub use reply::write_reply;
 pub use told::{ReplyRead, read_reply};
-
-#[cfg(test)]
-mod tests;

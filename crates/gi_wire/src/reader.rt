@@ -17,7 +17,7 @@ use std::marker::Model;
 
 /// What an item asks for.
 #[derive(Drop)]
-pub enum Asked {
+pub enum RequestKind {
     Call(Call),
     /// The line isn't in the grammar, or the input ends before the load's bytes are there or behind a `+`.
     Syntax,
@@ -28,16 +28,16 @@ pub enum Asked {
 /// A line, with all that are joined to it because each before goes on by a last word `+`; a load with the bytes behind its
 /// line, which are no lines.
 #[derive(Drop)]
-pub struct Item {
+pub struct Request {
     /// The number of its first line, from 1.
     pub line: u64,
-    pub asked: Asked,
+    pub asked: RequestKind,
 }
 
 /// What comes next of the items.
 #[derive(Drop)]
-pub enum Given {
-    Item(Item),
+pub enum NextRequest {
+    Request(Request),
     /// No item is whole, and more may come.
     More,
     /// The input has ended, and every item was given.
@@ -106,7 +106,7 @@ impl Reader {
     }
 
     /// The next item.
-    pub fn next_item(&mut self) -> Given
+    pub fn next_item(&mut self) -> NextRequest
         requires { last_line self.old < 2 ^ 63 }
         ensures { GivesNext result self.old self.new }
     {
@@ -117,7 +117,7 @@ impl Reader {
     }
 
     // The item that the next lines are, or begin.
-    fn next_lines(&mut self) -> Given
+    fn next_lines(&mut self) -> NextRequest
         requires room { last_line self.old < 2 ^ 63 }
         requires load { self.old.load ≡ None }
         ensures { GivesNext result self.old self.new }
@@ -131,7 +131,7 @@ impl Reader {
     }
 
     // Takes a line: what it gives, unless it goes on.
-    fn take_line(&mut self) -> Option<Given>
+    fn take_line(&mut self) -> Option<NextRequest>
         requires room { last_line self.old < 2 ^ 63 }
         requires load { self.old.load ≡ None }
         ensures { MatchOption result (GoesOn self.old self.new) (λ given. GivesNext given self.old self.new) }
@@ -140,15 +140,15 @@ impl Reader {
             Look::Line(n) => self.take_whole(n),
             Look::Long => {
                 let first = self.begun.first();
-                Some(Given::Item(self.number(first, Asked::Long)))
+                Some(NextRequest::Request(self.number(first, RequestKind::Long)))
             }
-            Look::More => Some(Given::More),
+            Look::More => Some(NextRequest::More),
             Look::Done => Some(self.cut_lines()),
         }
     }
 
     // Takes the line of `n` bytes in front.
-    fn take_whole(&mut self, n: u32) -> Option<Given>
+    fn take_whole(&mut self, n: u32) -> Option<NextRequest>
         requires room { last_line self.old < 2 ^ 63 }
         requires load { self.old.load ≡ None }
         requires line { IsLine n self.old.lines }
@@ -161,38 +161,41 @@ impl Reader {
                 self.line += 1;
                 None
             }
-            Taken::Long => Some(Given::Item(self.number(first, Asked::Long))),
-            Taken::Call(call) => Some(Given::Item(self.number(first, Asked::Call(call)))),
+            Taken::Long => Some(NextRequest::Request(self.number(first, RequestKind::Long))),
+            Taken::Call(call) => Some(NextRequest::Request(self.number(
+                first,
+                RequestKind::Call(call),
+            ))),
             Taken::Load(load) => {
                 self.begun = Begun::new(self.alloc, self.line);
                 self.load = Some(load);
                 Some(self.next_load(load))
             }
-            Taken::Syntax => Some(Given::Item(self.number(first, Asked::Syntax))),
-            Taken::NoMemory => Some(Given::NoMemory),
+            Taken::Syntax => Some(NextRequest::Request(self.number(first, RequestKind::Syntax))),
+            Taken::NoMemory => Some(NextRequest::NoMemory),
         }
     }
 
     // The input has ended: lines that go on are refused.
-    fn cut_lines(&mut self) -> Given
+    fn cut_lines(&mut self) -> NextRequest
         requires load { self.old.load ≡ None }
         requires left { self.old.lines.left ≡ [] }
         requires ended { self.old.lines.ended ≡ true }
         ensures { GivesNext result self.old self.new }
     {
         if self.begun.is_empty() {
-            return Given::Done;
+            return NextRequest::Done;
         }
         let line = self.begun.first();
         self.begun = Begun::new(self.alloc, self.line);
-        Given::Item(Item {
+        NextRequest::Request(Request {
             line,
-            asked: Asked::Syntax,
+            asked: RequestKind::Syntax,
         })
     }
 
     // The item that the load under way makes.
-    fn next_load(&mut self, load: Load) -> Given
+    fn next_load(&mut self, load: Load) -> NextRequest
         requires room { self.old.line < 2 ^ 63 }
         requires load { self.old.load ≡ Some load }
         ensures { GivesLoad result self.old self.new }
@@ -200,16 +203,19 @@ impl Reader {
         let line = self.line;
         match self.lines.take_raw(load.len) {
             Raw::Bytes(bytes) => {
-                Given::Item(self.number(line, Asked::Call(call_of_load(load.kind, bytes))))
+                NextRequest::Request(self.number(
+                    line,
+                    RequestKind::Call(call_of_load(load.kind, bytes)),
+                ))
             }
-            Raw::More => Given::More,
-            Raw::Cut => Given::Item(self.number(line, Asked::Syntax)),
-            Raw::NoMemory => Given::NoMemory,
+            Raw::More => NextRequest::More,
+            Raw::Cut => NextRequest::Request(self.number(line, RequestKind::Syntax)),
+            Raw::NoMemory => NextRequest::NoMemory,
         }
     }
 
     // Numbers what an item asks for. The next line begins another.
-    fn number(&mut self, first: u64, asked: Asked) -> Item
+    fn number(&mut self, first: u64, asked: RequestKind) -> Request
         requires { self.old.line < 2 ^ 63 }
         ensures item { result ≡ record { line = first; asked = asked } }
         ensures next { self.new ≡ record self.old { line = self.old.line + 1; joined = alone (self.old.line + 1); load = None } }
@@ -217,7 +223,7 @@ impl Reader {
         self.line += 1;
         self.begun = Begun::new(self.alloc, self.line);
         self.load = None;
-        Item { line: first, asked }
+        Request { line: first, asked }
     }
 }
 

@@ -1,6 +1,6 @@
 use Rattle.std.proofs.Common.{◌≡◌, ◌<◌, length, List, [], ◌∷◌, ℕ, None, ap, sym, ◌∙◌, arith, subst, refl}
-use Rattle.gi_wire.specs.declared.reader.Asked.TheVariants as asked
-use Rattle.gi_wire.specs.declared.reader.Given.TheVariants as answers
+use Rattle.gi_wire.specs.declared.reader.RequestKind.TheVariants as asked
+use Rattle.gi_wire.specs.declared.reader.NextRequest.TheVariants as answers
 use Rattle.gi_wire.specs.Gives.{GivesItem, GivesNext}
 use Rattle.gi_wire.specs.Items.{alone, item}
 use Rattle.gi_wire.specs.Source.{Source}

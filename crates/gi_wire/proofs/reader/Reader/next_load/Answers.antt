@@ -1,7 +1,7 @@
 use Rattle.std.proofs.Common.{◌≡◌, Some, ap, ◌∙◌, subst}
 use Rattle.gi_text.specs.Lines.{Kept}
-use Rattle.gi_wire.specs.declared.reader.Asked.TheVariants as asked
-use Rattle.gi_wire.specs.declared.reader.Given.TheVariants as answers
+use Rattle.gi_wire.specs.declared.reader.RequestKind.TheVariants as asked
+use Rattle.gi_wire.specs.declared.reader.NextRequest.TheVariants as answers
 use Rattle.gi_wire.specs.Gives.{GivesItem, GivesLoad, Waits}
 use Rattle.gi_wire.specs.Items.{item, load_call}
 use Rattle.gi_wire.specs.Source.{Source}

@@ -1,7 +1,7 @@
 use Rattle.std.proofs.Common.{◌≡◌, ◌<◌, length, None, ap, sym, ◌∙◌, arith, subst, refl, MatchOption}
 use Rattle.gi_text.specs.Given.{IsLine}
 use Rattle.gi_text.specs.Lines.{Kept}
-use Rattle.gi_wire.specs.declared.reader.Asked.TheVariants as asked
+use Rattle.gi_wire.specs.declared.reader.RequestKind.TheVariants as asked
 use Rattle.gi_wire.specs.Gives.{GivesItem, GivesNext, GoesOn, Waits}
 use Rattle.gi_wire.specs.Items.{item}
 use Rattle.gi_wire.specs.Limits.{most_line}

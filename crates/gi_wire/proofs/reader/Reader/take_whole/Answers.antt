@@ -2,8 +2,8 @@ use Rattle.std.proofs.Common.{◌≡◌, ◌≤◌, ◌+◌, length, take, ap, s
 use Rattle.std.proofs.lemmas.List.{length-take}
 use Rattle.gi_text.specs.Given.{IsLine}
 use Rattle.gi_wire.specs.declared.call.Load.{Load}
-use Rattle.gi_wire.specs.declared.reader.Asked.TheVariants as asked
-use Rattle.gi_wire.specs.declared.reader.Given.TheVariants as answers
+use Rattle.gi_wire.specs.declared.reader.RequestKind.TheVariants as asked
+use Rattle.gi_wire.specs.declared.reader.NextRequest.TheVariants as answers
 use Rattle.gi_wire.specs.Gives.{GivesItem, GivesLoad, GivesNext, GoesOn}
 use Rattle.gi_wire.specs.Grammar.{Makes}
 use Rattle.gi_wire.specs.Items.{Joined, alone, item, join}
