@@ -17,11 +17,11 @@ use Rattle.gi_wire.specs.Gives.{GivesItem, SameAhead}
 use Rattle.gi_wire.specs.Items.{alone, items, items_from}
 use Rattle.gi_wire.specs.Limits.{most_line}
 use Rattle.gi_wire.specs.Source.{Source, ahead, goes_on}
-use Rattle.gi_wire.specs.declared.reader.Item.{Item}
+use Rattle.gi_wire.specs.declared.reader.Request.{Request}
 use Rattle.gi_net.specs.Answers.{answers, call_in, calls, texts}
 use Rattle.gi_net.specs.Calls.{BreaksOff}
 use Rattle.gi_net.specs.Entries.{WorksForWaits, all_own_of, own_of, replies}
-use Rattle.gi_net.specs.Going.{Going, SoFar}
+use Rattle.gi_net.specs.MidSession.{MidSession, SoFar}
 use Rattle.gi_net.specs.Served.{IsShort}
 use Rattle.gi_net.specs.Standing.{Standing}
 use Rattle.gi_net.specs.Told.{TookAs, Took, entry_of}
@@ -41,7 +41,7 @@ takes_none None = refl
 takes_none (Some xs) = refl
 
 -- nothing has happened
-pub begun : (w : World) (first : Standing) (s : Source) → ((ended : Bool) (more : List ℕ) → items ended more ≡ ahead s ended more) → Going w w first first s 0
+pub begun : (w : World) (first : Standing) (s : Source) → ((ended : Bool) (more : List ℕ) → items ended more ≡ ahead s ended more) → MidSession w w first first s 0
 unfolding answers
 begun w first s same = record {
   done = [];
@@ -69,7 +69,7 @@ begun w first s same = record {
 }
 
 -- bytes were written
-pub wrote_on : {last : Type 0} {start v : World} {first h : Standing} {s : Source} {taken : ℕ} {done : List Item} {own : List Entry} {out : List ℕ} (w : World) (bytes : List ℕ)
+pub wrote_on : {last : Type 0} {start v : World} {first h : Standing} {s : Source} {taken : ℕ} {done : List Request} {own : List Entry} {out : List ℕ} (w : World) (bytes : List ℕ)
     → SoFar last start v first h s taken done own out → Wrote v w bytes → SoFar last start w first h s taken done own (out ++ bytes)
 wrote_on {start = start} {v = v} {own = own} {out = out} w bytes was wrote =
     let put : outs (map Out wrote.pieces) ≡ bytes = outs_of_outs wrote.pieces ∙ wrote.joined in
@@ -94,17 +94,17 @@ wrote_on {start = start} {v = v} {own = own} {out = out} w bytes was wrote =
       pieces = All-append IsShort was.added (map Out wrote.pieces) was.pieces (short_outs wrote.pieces);
     }
 
-pub wrote_on_added : {last : Type 0} {start v : World} {first h : Standing} {s : Source} {taken : ℕ} {done : List Item} {own : List Entry} {out : List ℕ} (w : World) (bytes : List ℕ)
+pub wrote_on_added : {last : Type 0} {start v : World} {first h : Standing} {s : Source} {taken : ℕ} {done : List Request} {own : List Entry} {out : List ℕ} (w : World) (bytes : List ℕ)
     (was : SoFar last start v first h s taken done own out) (wrote : Wrote v w bytes) → (wrote_on w bytes was wrote).added ≡ was.added ++ map Out wrote.pieces
 unfolding wrote_on
 wrote_on_added w bytes was wrote = refl
 
 -- the same entries, by the number that the caller has had from the first
-took_first : {n m : ℕ} {r : Reply} {h k : Standing} (i : Item) → n ≡ m → TookAs n i.asked r h k → TookAs m i.asked r h k
+took_first : {n m : ℕ} {r : Reply} {h k : Standing} (i : Request) → n ≡ m → TookAs n i.asked r h k → TookAs m i.asked r h k
 took_first {r = r} {h = h} {k = k} i e took = subst (λ (n : ℕ). TookAs n i.asked r h k) e took
 
 -- an item was answered by an entry, or by none
-entered : {start v : World} {first h : Standing} {s : Source} {taken : ℕ} {done : List Item} {own : List Entry} {out : List ℕ} (k : Standing) (t : Source) (i : Item) (r : Reply)
+entered : {start v : World} {first h : Standing} {s : Source} {taken : ℕ} {done : List Request} {own : List Entry} {out : List ℕ} (k : Standing) (t : Source) (i : Request) (r : Reply)
     → SoFar ⊥ start v first h s taken done own out → GivesItem i s t → TookAs first.number i.asked r h k
     → SoFar ⊥ start v first k t taken (done ++ i ∷ []) (own ++ entry_of first.number i.asked r) out
 entered {first = first} {h = h} {s = s} {done = done} {own = own} k t i r was gives took =
@@ -135,13 +135,13 @@ entered {first = first} {h = h} {s = s} {done = done} {own = own} k t i r was gi
     }
 
 -- an item was answered, and these bytes were written
-pub answered : {start v : World} {first h : Standing} {s : Source} {taken : ℕ} {done : List Item} {own : List Entry} {out : List ℕ} (w : World) (k : Standing) (t : Source) (i : Item) (r : Reply) (bytes : List ℕ)
+pub answered : {start v : World} {first h : Standing} {s : Source} {taken : ℕ} {done : List Request} {own : List Entry} {out : List ℕ} (w : World) (k : Standing) (t : Source) (i : Request) (r : Reply) (bytes : List ℕ)
     → SoFar ⊥ start v first h s taken done own out → GivesItem i s t → Took i.asked r h k → Wrote v w bytes
     → SoFar ⊥ start w first k t taken (done ++ i ∷ []) (own ++ entry_of first.number i.asked r) (out ++ bytes)
 answered w k t i r bytes was gives took wrote = wrote_on w bytes (entered k t i r was gives (took_first i was.number took)) wrote
 
 -- a call has no entry
-pub broke_off : {start v : World} {first h : Standing} {s : Source} {taken : ℕ} {done : List Item} {own : List Entry} {out : List ℕ} (k : Standing) (what : Call)
+pub broke_off : {start v : World} {first h : Standing} {s : Source} {taken : ℕ} {done : List Request} {own : List Entry} {out : List ℕ} (k : Standing) (what : Call)
     → SoFar ⊥ start v first h s taken done own out → BreaksOff what h k
     → SoFar (what ≡ call.Wait) start v first k s taken done own out
 broke_off {first = first} {own = own} k what was breaks =
@@ -179,10 +179,10 @@ none_out piece = refl
 
 -- a piece more was read
 pub has_read : {start v : World} {first h : Standing} {s : Source} {taken : ℕ} (w : World) (t : Source) (piece : List ℕ)
-    → Going start v first h s taken → ahead s false [] ≡ [] → s.lines.ended ≡ false
+    → MidSession start v first h s taken → ahead s false [] ≡ [] → s.lines.ended ≡ false
     → Adds v.tape w.tape (In piece ∷ []) → Takes v.rest w.rest piece → v.failed_reads ≤ w.failed_reads → w.failed_writes ≡ v.failed_writes
     → ((ended : Bool) (more : List ℕ) → ahead t ended more ≡ ahead s ended (piece ++ more)) → length piece ≤ 4096
-    → Going start w first h t (taken + length piece)
+    → MidSession start w first h t (taken + length piece)
 has_read {start = start} {v = v} {s = s} {taken = taken} w t piece going none going_on tape rest reads writes fed few =
     let was = going.so_far in
     let read : ins (was.added ++ In piece ∷ []) ≡ ins was.added ++ piece = ins-append was.added (In piece ∷ []) ∙ ap (λ xs. ins was.added ++ xs) (one_in piece) in
@@ -216,7 +216,7 @@ has_read {start = start} {v = v} {s = s} {taken = taken} w t piece going none go
     }
 
 pub has_read_added : {start v : World} {first h : Standing} {s : Source} {taken : ℕ} (w : World) (t : Source) (piece : List ℕ)
-    (going : Going start v first h s taken) (none : ahead s false [] ≡ []) (going_on : s.lines.ended ≡ false)
+    (going : MidSession start v first h s taken) (none : ahead s false [] ≡ []) (going_on : s.lines.ended ≡ false)
     (tape : Adds v.tape w.tape (In piece ∷ [])) (rest : Takes v.rest w.rest piece) (reads : v.failed_reads ≤ w.failed_reads) (writes : w.failed_writes ≡ v.failed_writes)
     (fed : (ended : Bool) (more : List ℕ) → ahead t ended more ≡ ahead s ended (piece ++ more)) (few : length piece ≤ 4096)
     → (has_read w t piece going none going_on tape rest reads writes fed few).so_far.added ≡ going.so_far.added ++ In piece ∷ []
@@ -225,10 +225,10 @@ has_read_added w t piece going none going_on tape rest reads writes fed few = re
 
 -- a read gave nothing
 pub has_ended : {start v : World} {first h : Standing} {s : Source} {taken : ℕ} (w : World) (t : Source)
-    → Going start v first h s taken → s.lines.ended ≡ false
+    → MidSession start v first h s taken → s.lines.ended ≡ false
     → Adds v.tape w.tape [] → Takes v.rest w.rest [] → v.failed_reads ≤ w.failed_reads → w.failed_writes ≡ v.failed_writes
     → ((ended : Bool) (more : List ℕ) → ahead t ended more ≡ ahead s ended more)
-    → Going start w first h t taken
+    → MidSession start w first h t taken
 has_ended {start = start} {v = v} w t going going_on tape rest reads writes same =
     let was = going.so_far in
     record {
@@ -257,7 +257,7 @@ has_ended {start = start} {v = v} w t going going_on tape rest reads writes same
     }
 
 -- the reader has let go of bytes that make no difference
-pub same_goes : {start w : World} {first h : Standing} {s : Source} {taken : ℕ} (t : Source) → Going start w first h s taken → SameAhead s t → t.lines.ended ≡ s.lines.ended → Going start w first h t taken
+pub same_goes : {start w : World} {first h : Standing} {s : Source} {taken : ℕ} (t : Source) → MidSession start w first h s taken → SameAhead s t → t.lines.ended ≡ s.lines.ended → MidSession start w first h t taken
 same_goes t going same ended =
     let was = going.so_far in
     record {

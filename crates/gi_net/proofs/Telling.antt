@@ -8,17 +8,17 @@ use Rattle.gi_model.specs.declared.replies.Reply.{Reply}
 use Rattle.gi_model.specs.declared.replies.Reply.TheVariants as reply
 use Rattle.gi_model.specs.declared.refusal.Refusal.TheVariants as refusal
 use Rattle.gi_wire.specs.Text.{is_answer}
-use Rattle.gi_wire.specs.declared.reader.Asked.TheVariants as asked
-use Rattle.gi_wire.specs.declared.reader.Item.{Item}
+use Rattle.gi_wire.specs.declared.reader.RequestKind.TheVariants as asked
+use Rattle.gi_wire.specs.declared.reader.Request.{Request}
 use Rattle.gi_net.specs.declared.how.How.{How}
 use Rattle.gi_net.specs.declared.how.How.TheVariants as how
 use Rattle.gi_net.specs.Calls.{BreaksOff, Enters}
 use Rattle.gi_net.specs.Standing.{Standing}
-use Rattle.gi_net.specs.Told.{AnswersItem, Tells, TellsNoMemory, Took}
+use Rattle.gi_net.specs.Told.{AnswersItem, TellsReply, TellsNoMemory, Took}
 use Rattle.gi_net.proofs.Works.{fits_no_work}
 
 -- an item whose reply was told
-pub told_item : (starved : Type 0) (by : Option How) (i : Item) (r : Reply) (h k : Standing) (v w : World) → Took i.asked r h k → Tells by i.line r v w → AnswersItem by i h k starved v w
+pub told_item : (starved : Type 0) (by : Option How) (i : Request) (r : Reply) (h k : Standing) (v w : World) → Took i.asked r h k → TellsReply by i.line r v w → AnswersItem by i h k starved v w
 told_item starved None i r h k v w took told = record { reply = r; took = took; wrote = told.0; closes = told.1 }
 told_item starved (Some how.WriteFault) i r h k v w took told = inl (record { reply = r; took = took; cut = told })
 told_item starved (Some how.NoMemory) i r h k v w took told = inl (record { reply = r; took = took; wrote = told.0; closes = told.1 })
@@ -29,11 +29,11 @@ told_item starved (Some how.Dead) i r h k v w took told = record { reply = r; to
 told_item starved (Some how.ReadFault) i r h k v w took told = absurd told.1
 
 -- a line that is no call
-pub syntax_told : (starved : Type 0) (by : Option How) (line : ℕ) (h : Standing) (v w : World) → Tells by line (reply.Refused refusal.Syntax) v w → AnswersItem by (record { line = line; asked = asked.Syntax }) h h starved v w
+pub syntax_told : (starved : Type 0) (by : Option How) (line : ℕ) (h : Standing) (v w : World) → TellsReply by line (reply.Refused refusal.Syntax) v w → AnswersItem by (record { line = line; asked = asked.Syntax }) h h starved v w
 syntax_told starved by line h v w told = told_item starved by (record { line = line; asked = asked.Syntax }) (reply.Refused refusal.Syntax) h h v w
     (record { may_be = refl; before = []; no_call = refl; waits = inl refl; number = refl; history = sym (append-nil h.history); left = omega arith }) told
 
-pub long_told : (starved : Type 0) (by : Option How) (line : ℕ) (h : Standing) (v w : World) → Tells by line (reply.Refused refusal.Long) v w → AnswersItem by (record { line = line; asked = asked.Long }) h h starved v w
+pub long_told : (starved : Type 0) (by : Option How) (line : ℕ) (h : Standing) (v w : World) → TellsReply by line (reply.Refused refusal.Long) v w → AnswersItem by (record { line = line; asked = asked.Long }) h h starved v w
 long_told starved by line h v w told = told_item starved by (record { line = line; asked = asked.Long }) (reply.Refused refusal.Long) h h v w
     (record { may_be = refl; before = []; no_call = refl; waits = inl refl; number = refl; history = sym (append-nil h.history); left = omega arith }) told
 
@@ -41,7 +41,7 @@ some_is : (o : Option Reply) (r q : Reply) → o ≡ Some r → o ≡ Some q →
 some_is o r q d e = cc
 
 -- a call that has an entry
-pub entry_told : (starved : Type 0) (by : Option How) (line : ℕ) (what : Call) (o : Option Reply) (r : Reply) (h k : Standing) (v w : World) → fits what ≡ true → Enters what o h k → o ≡ Some r → Tells by line r v w → AnswersItem by (record { line = line; asked = asked.Call what }) h k starved v w
+pub entry_told : (starved : Type 0) (by : Option How) (line : ℕ) (what : Call) (o : Option Reply) (r : Reply) (h k : Standing) (v w : World) → fits what ≡ true → Enters what o h k → o ≡ Some r → TellsReply by line r v w → AnswersItem by (record { line = line; asked = asked.Call what }) h k starved v w
 entry_told starved by line what o r h k v w may enters is told =
     let same : enters.reply ≡ r = some_is o enters.reply r enters.answer_is is in
     told_item starved by (record { line = line; asked = asked.Call what }) enters.reply h k v w
@@ -53,7 +53,7 @@ entry_told starved by line what o r h k v w may enters is told =
       number = enters.number;
       history = enters.history;
       left = enters.left;
-    }) (subst (λ (q : Reply). Tells by line q v w) (sym same) told)
+    }) (subst (λ (q : Reply). TellsReply by line q v w) (sym same) told)
 
 -- the reply that is told may be
 pub entry_may_be : (what : Call) (o : Option Reply) (r : Reply) (h k : Standing) → Enters what o h k → o ≡ Some r → is_answer r ≡ true
@@ -73,7 +73,7 @@ pub unserved_told : (starved : Type 0) (line : ℕ) (what : Call) (h k : Standin
 unserved_told starved line what h k v breaks none = (record { what = what; asked_is = refl; breaks = breaks }, none, refl)
 
 -- with a weaker account of the want of memory
-pub starved_as : {A B : Type 0} (by : How) (i : Item) (h k : Standing) (v w : World) → (A → B) → AnswersItem (Some by) i h k A v w → AnswersItem (Some by) i h k B v w
+pub starved_as : {A B : Type 0} (by : How) (i : Request) (h k : Standing) (v w : World) → (A → B) → AnswersItem (Some by) i h k A v w → AnswersItem (Some by) i h k B v w
 starved_as how.WriteFault i h k v w f (inl told) = inl told
 starved_as how.WriteFault i h k v w f (inr told) = inr (told.0, f told.1, told.2)
 starved_as how.NoMemory i h k v w f (inl told) = inl told

@@ -7,10 +7,10 @@ use Rattle.gi_model.specs.History.{Entry}
 use Rattle.gi_model.specs.declared.calls.Call.{Call}
 use Rattle.gi_model.specs.declared.calls.Call.TheVariants as call
 use Rattle.gi_model.specs.declared.replies.Reply.{Reply}
-use Rattle.gi_wire.specs.declared.reader.Asked.{Asked}
-use Rattle.gi_wire.specs.declared.reader.Asked.TheVariants as asked
+use Rattle.gi_wire.specs.declared.reader.RequestKind.{RequestKind}
+use Rattle.gi_wire.specs.declared.reader.RequestKind.TheVariants as asked
 use Rattle.gi_net.specs.Entries.{WaitIsNext, WorksForWaits, all_own_of, is_work, own_of}
-use Rattle.gi_net.specs.Told.{Answers, entry_of}
+use Rattle.gi_net.specs.Told.{AnswersRequest, entry_of}
 
 -- one run of own entries after another
 works-append : (A B : Type 0) (xs ys : List Entry) → WorksForWaits A xs → (A → WaitIsNext B ys) → WorksForWaits B ys → WorksForWaits B (xs ++ ys)
@@ -51,15 +51,15 @@ pub works_broken : (n : ℕ) (A : Type 0) (xs before : List Entry) → WorksForW
 works_broken n A xs before h none waits = works-append ⊥ A xs (all_own_of n before) h (λ x. absurd x) (works_here A (all_own_of n before) (all_work n before none) (none_or (all_own_of n before) A waits))
 
 -- the work of an item and its entry
-pub works_taken : (n : ℕ) (item : Asked) (r : Reply) (xs before : List Entry) → WorksForWaits ⊥ xs → Answers item r → own_of n before ≡ [] → (all_own_of n before ≡ []) ⊎ (item ≡ asked.Call call.Wait) → WorksForWaits ⊥ (xs ++ (all_own_of n before ++ entry_of n item r))
+pub works_taken : (n : ℕ) (item : RequestKind) (r : Reply) (xs before : List Entry) → WorksForWaits ⊥ xs → AnswersRequest item r → own_of n before ≡ [] → (all_own_of n before ≡ []) ⊎ (item ≡ asked.Call call.Wait) → WorksForWaits ⊥ (xs ++ (all_own_of n before ++ entry_of n item r))
 works_taken n item r xs before h may none waits = works-append ⊥ ⊥ xs (all_own_of n before ++ entry_of n item r) h (λ x. absurd x)
     (works-append (item ≡ asked.Call call.Wait) ⊥ (all_own_of n before) (entry_of n item r) (works_here (item ≡ asked.Call call.Wait) (all_own_of n before) (all_work n before none) (none_or (all_own_of n before) (item ≡ asked.Call call.Wait) waits)) (next item) (own item may)) where
-      next : (a : Asked) → a ≡ asked.Call call.Wait → WaitIsNext ⊥ (entry_of n a r)
+      next : (a : RequestKind) → a ≡ asked.Call call.Wait → WaitIsNext ⊥ (entry_of n a r)
       next (asked.Call what) e = inr cc
       next asked.Syntax e = cc
       next asked.Long e = cc
 
-      own : (a : Asked) → Answers a r → WorksForWaits ⊥ (entry_of n a r)
+      own : (a : RequestKind) → AnswersRequest a r → WorksForWaits ⊥ (entry_of n a r)
       own (asked.Call what) m = (λ w. (let no = m.1 in cc), tt)
       own asked.Syntax m = tt
       own asked.Long m = tt
@@ -69,12 +69,12 @@ pub fits_no_work : (what : Call) → fits what ≡ true → is_work what ≡ fal
 fits_no_work (call.Work mark) h = cc
 fits_no_work what h = refl
 
-pub all_own_entry : (n : ℕ) (item : Asked) (r : Reply) → all_own_of n (entry_of n item r) ≡ entry_of n item r
+pub all_own_entry : (n : ℕ) (item : RequestKind) (r : Reply) → all_own_of n (entry_of n item r) ≡ entry_of n item r
 all_own_entry n (asked.Call what) r = rw (eq-eqb n n refl) refl
 all_own_entry n asked.Syntax r = refl
 all_own_entry n asked.Long r = refl
 
-pub own_entry : (n : ℕ) (item : Asked) (r : Reply) → Answers item r → own_of n (entry_of n item r) ≡ entry_of n item r
+pub own_entry : (n : ℕ) (item : RequestKind) (r : Reply) → AnswersRequest item r → own_of n (entry_of n item r) ≡ entry_of n item r
 own_entry n (asked.Call what) r m = rw (eq-eqb n n refl, m.1) refl
 own_entry n asked.Syntax r m = refl
 own_entry n asked.Long r m = refl

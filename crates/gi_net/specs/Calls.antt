@@ -44,6 +44,6 @@ pub record BreaksOff (what : Call) (old new : Standing) : Type 0 where
 
 -- an entry is wanting exactly where no call was left, but for want of memory
 abbrev pub Makes : Answered → Call → Option Reply → Standing → Standing → Type 0
-Makes answered.Entry what answer old new = Enters what answer old new
+Makes answered.Recorded what answer old new = Enters what answer old new
 Makes answered.NoMemory what answer old new = BreaksOff what old new × (0 < new.left)
 Makes answered.Spent what answer old new = BreaksOff what old new × (new.left ≡ 0)

@@ -5,5 +5,5 @@ pub mod Answers
 pub mod Served
 pub mod Session
 pub mod Over
-pub mod Going
+pub mod MidSession
 pub mod Told

@@ -9,7 +9,7 @@ use Rattle.gi_model.specs.declared.replies.Reply.TheVariants as reply
 use Rattle.gi_wire.specs.Gives.{TakesMemory}
 use Rattle.gi_wire.specs.Items.{items}
 use Rattle.gi_wire.specs.Text.{text}
-use Rattle.gi_wire.specs.declared.reader.Item.{Item}
+use Rattle.gi_wire.specs.declared.reader.Request.{Request}
 use Rattle.gi_net.specs.declared.how.How.{How}
 use Rattle.gi_net.specs.declared.how.How.TheVariants as how
 use Rattle.gi_net.specs.Answers.{Answer}
@@ -26,7 +26,7 @@ pub record IsBehindRead (tape : List Piece) : Type 0 where
   pub joined : flat_map (λ piece. piece) pieces ≡ text 0 reply.NoMemory
 
 -- whatever bytes come behind those taken, reading the item behind those in front takes memory
-pub record NextTakesMemory (bytes : List ℕ) (ended : Bool) (front : List Item) : Type 0 where
+pub record NextTakesMemory (bytes : List ℕ) (ended : Bool) (front : List Request) : Type 0 where
   pub each : (e : Bool) (more : List ℕ) → (ended ≡ true → (e ≡ true) × (more ≡ [])) → TakesMemory (drop (length front) (items e (bytes ++ more)))
 
 -- What memory was asked for: a call, which was answered `nomem`, or whose caller lacked memory for its entry; the lists, the

@@ -11,8 +11,8 @@ use Rattle.gi_model.specs.declared.replies.Reply.TheVariants as reply
 use Rattle.gi_model.specs.declared.refusal.Refusal.TheVariants as refusal
 use Rattle.gi_wire.specs.Items.{items}
 use Rattle.gi_wire.specs.Text.{text}
-use Rattle.gi_wire.specs.declared.reader.Asked.TheVariants as asked
-use Rattle.gi_wire.specs.declared.reader.Item.{Item}
+use Rattle.gi_wire.specs.declared.reader.RequestKind.TheVariants as asked
+use Rattle.gi_wire.specs.declared.reader.Request.{Request}
 use Rattle.gi_net.specs.declared.how.How.{How}
 use Rattle.gi_net.specs.declared.how.How.TheVariants as how
 use Rattle.gi_net.specs.Answers.{Answer, answers, calls, text_of, texts}
@@ -57,25 +57,25 @@ pub record CutInNoMemory (given : List Answer) (out : List ℕ) : Type 0 where
 
 -- How a session ends: whether End came, how many bytes were taken, that the caller's calls are used up, the answers, the
 -- items behind them, and what was written.
-abbrev pub Ends : How → Bool → ℕ → Type 0 → List Answer → List Item → List ℕ → Type 0
-Ends how.Bye ended taken used given rest out = EndsByBye given × (out ≡ texts given)
-Ends how.Eof ended taken used given rest out = (ended ≡ true) × (rest ≡ []) × AllByRecursion IsQuiet given × (out ≡ texts given)
-Ends how.Dead ended taken used given rest out = EndsBy given (reply.Refused refusal.Dead) × (out ≡ texts given)
-Ends how.ReadFault ended taken used given rest out = (rest ≡ []) × AllByRecursion IsQuiet given × (out ≡ texts given)
-Ends how.NoMemory ended taken used given rest out = (EndsBy given reply.NoMemory × (out ≡ texts given))
+abbrev pub SessionEnds : How → Bool → ℕ → Type 0 → List Answer → List Request → List ℕ → Type 0
+SessionEnds how.Bye ended taken used given rest out = EndsByBye given × (out ≡ texts given)
+SessionEnds how.Eof ended taken used given rest out = (ended ≡ true) × (rest ≡ []) × AllByRecursion IsQuiet given × (out ≡ texts given)
+SessionEnds how.Dead ended taken used given rest out = EndsBy given (reply.Refused refusal.Dead) × (out ≡ texts given)
+SessionEnds how.ReadFault ended taken used given rest out = (rest ≡ []) × AllByRecursion IsQuiet given × (out ≡ texts given)
+SessionEnds how.NoMemory ended taken used given rest out = (EndsBy given reply.NoMemory × (out ≡ texts given))
     ⊎ (AllByRecursion IsQuiet given × (out ≡ texts given ++ text 0 reply.NoMemory))
-Ends how.TooMuch ended taken used given rest out = ((2 ^ 62 ≤ taken) ⊎ ((0 < length rest) × used)) × AllByRecursion IsQuiet given × (out ≡ texts given)
-Ends how.WriteFault ended taken used given rest out = CutShort given out ⊎ CutInNoMemory given out
+SessionEnds how.TooMuch ended taken used given rest out = ((2 ^ 62 ≤ taken) ⊎ ((0 < length rest) × used)) × AllByRecursion IsQuiet given × (out ≡ texts given)
+SessionEnds how.WriteFault ended taken used given rest out = CutShort given out ⊎ CutInNoMemory given out
 
 -- the bytes taken, whether End came, the caller's calls, that they are used up, the bytes written and the end
 pub record Served (bytes : List ℕ) (ended : Bool) (own : List Entry) (used : Type 0) (out : List ℕ) (how : How) : Type 0 where
   -- the items that were answered, and those behind them
-  pub front : List Item
-  pub rest : List Item
+  pub front : List Request
+  pub rest : List Request
   pub split : items ended bytes ≡ front ++ rest
   -- their calls are the caller's, each once, in order
   pub calls_are : map (λ e. e.call) own ≡ calls front
-  pub ends : Ends how ended (length bytes) used (answers front (replies own)) rest out
+  pub ends : SessionEnds how ended (length bytes) used (answers front (replies own)) rest out
 
 -- before each In piece, all items of the In pieces before it were answered, each so that the session goes on, and nothing
 -- else was written

@@ -9,8 +9,8 @@ use Rattle.gi_model.specs.History.{Entry}
 use Rattle.gi_model.specs.declared.calls.Call.TheVariants as call
 use Rattle.gi_model.specs.declared.replies.Reply.TheVariants as reply
 use Rattle.gi_model.specs.declared.refusal.Refusal.TheVariants as refusal
-use Rattle.gi_wire.specs.declared.reader.Asked.TheVariants as asked
-use Rattle.gi_wire.specs.declared.reader.Item.{Item}
+use Rattle.gi_wire.specs.declared.reader.RequestKind.TheVariants as asked
+use Rattle.gi_wire.specs.declared.reader.Request.{Request}
 use Rattle.gi_net.specs.declared.how.How.{How}
 use Rattle.gi_net.specs.declared.how.How.TheVariants as how
 use Rattle.gi_net.specs.Answers.{Answer, answers, texts}
@@ -25,7 +25,7 @@ HasCause how.WriteFault old new = Rose old.failed_writes new.failed_writes
 HasCause other old new = Unit {0}
 
 -- the first of the items is a wait
-abbrev pub IsWaitFirst : List Item → Type 0
+abbrev pub IsWaitFirst : List Request → Type 0
 IsWaitFirst [] = ⊥
 IsWaitFirst (i ∷ is) = i.asked ≡ asked.Call call.Wait
 
@@ -62,7 +62,7 @@ pub record Undisturbed (old new : World) (before after : Standing) (by : How) (s
   pub calls : 0 < after.left
 
 -- every item up to bye, or up to the end, was answered, and nothing else was written
-pub record IsWhole (old new : World) (before after : Standing) (by : How) (s : Session old new before after by) : Type 0 where
+pub record IsComplete (old new : World) (before after : Standing) (by : How) (s : Session old new before after by) : Type 0 where
   pub ends : (by ≡ how.Bye) ⊎ (by ≡ how.Eof)
   pub answered : (s.served.rest ≡ []) ⊎ EndsByBye (given s)
   pub out : outs s.added ≡ texts (given s)

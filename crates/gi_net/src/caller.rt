@@ -8,7 +8,7 @@ use gi_model::{Call, Reply};
 #[derive(Clone, Copy, Debug, PartialEq, Eq)]
 pub enum Answered {
     /// It has an entry in the history, with its reply.
-    Entry,
+    Recorded,
     /// There was no memory for its entry, which the caller counts.
     NoMemory,
     /// No call was left.

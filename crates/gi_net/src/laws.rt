@@ -1,6 +1,6 @@
 // What follows of a session.
 ghost use Rattle.gi_outside.specs.World.{World};
-ghost use Rattle.gi_net.specs.Session.{IsWhole, Session, Undisturbed};
+ghost use Rattle.gi_net.specs.Session.{IsComplete, Session, Undisturbed};
 ghost use Rattle.gi_net.specs.Standing.{Standing};
 ghost use Rattle.gi_net.specs.declared.how.How.{How};
 
@@ -8,5 +8,5 @@ ghost use Rattle.gi_net.specs.declared.how.How.{How};
 /// answered. Undisturbed is one in which no count of faults rose, memory was never wanting, fewer than
 /// 2^62 bytes were taken, no call was refused because the machine is over, and calls are left.
 pub fn undisturbed_is_whole()
-    ensures { (old new : World) (before after : Standing) (by : How) (s : Session old new before after by) → Undisturbed old new before after by s → IsWhole old new before after by s }
+    ensures { (old new : World) (before after : Standing) (by : How) (s : Session old new before after by) → Undisturbed old new before after by s → IsComplete old new before after by s }
 {}

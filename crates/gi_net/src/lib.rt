@@ -10,6 +10,3 @@ pub use caller::{Answered, Caller};
 pub use how::How;
 pub use laws::undisturbed_is_whole;
 pub use session::serve_one;
-
-#[cfg(test)]
-mod tests;

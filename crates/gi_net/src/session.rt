@@ -5,17 +5,17 @@ ghost use Rattle.gi_outside.specs.World.{World};
 ghost use Rattle.gi_wire.specs.Gives.{MayBeAsked};
 ghost use Rattle.gi_wire.specs.Source.{ahead, last_line};
 ghost use Rattle.gi_wire.specs.Text.{is_answer};
-ghost use Rattle.gi_net.specs.Going.{Going};
+ghost use Rattle.gi_net.specs.MidSession.{MidSession};
 ghost use Rattle.gi_net.specs.Over.{Over};
 ghost use Rattle.gi_net.specs.Standing.{Standing};
-ghost use Rattle.gi_net.specs.Told.{AnswersItem, Closes, Tells, TellsNoMemory};
+ghost use Rattle.gi_net.specs.Told.{AnswersItem, Closes, TellsReply, TellsNoMemory};
 ghost use Rattle.gi_model.specs.Fits.{fits};
-ghost use Rattle.gi_wire.specs.declared.reader.Asked.TheVariants as asked;
+ghost use Rattle.gi_wire.specs.declared.reader.RequestKind.TheVariants as asked;
 
 use crate::{Answered, Caller, How};
 use gi_model::{Call, Refusal, Reply};
 use gi_outside::{Got, Link, Sent};
-use gi_wire::{Asked, Given, Item, Reader, write_reply};
+use gi_wire::{NextRequest, Reader, Request, RequestKind, write_reply};
 use std::alloc::Global;
 
 // The most bytes that a session takes, but for its last read.
@@ -55,8 +55,8 @@ fn read_more<L: Link>(link: &mut L, reader: &mut Reader, taken: &mut u64) -> Opt
     ensures most { IfNone result (taken.new ≤ taken.old + 4096) }
     ensures count { IfNone result (last_line reader.new + taken.old ≤ last_line reader.old + taken.new) }
     ensures grows { IfNone result (reader.new.lines.ended ≡ false → taken.old < taken.new) }
-    ensures session { (start : World) (first here : Standing) (before now : ℕ) → Going start (L.state link.old) first here reader.old taken.old
-        → MatchOption result (Going start (L.state link.new) first here reader.new taken.new) (λ by. Over start (L.state link.new) first here (Rose before now) by) }
+    ensures session { (start : World) (first here : Standing) (before now : ℕ) → MidSession start (L.state link.old) first here reader.old taken.old
+        → MatchOption result (MidSession start (L.state link.new) first here reader.new taken.new) (λ by. Over start (L.state link.new) first here (Rose before now) by) }
 {
     let mut buffer = [0u8; PIECE];
     match link.read(&mut buffer) {
@@ -87,34 +87,34 @@ fn answer_items<C: Caller, L: Link>(
     ensures count { IfNone result (last_line reader.new ≤ last_line reader.old) }
     ensures starved { C.starved caller.old ≤ C.starved caller.new }
     ensures session { (start : World) (first : Standing) (before taken : ℕ) → (L.state link.old).ended ≡ reader.old.lines.ended → before ≤ C.starved caller.old
-        → Going start (L.state link.old) first (C.standing caller.old) reader.old taken
-        → MatchOption result (Going start (L.state link.new) first (C.standing caller.new) reader.new taken)
+        → MidSession start (L.state link.old) first (C.standing caller.old) reader.old taken
+        → MatchOption result (MidSession start (L.state link.new) first (C.standing caller.new) reader.new taken)
         (λ by. Over start (L.state link.new) first (C.standing caller.new) (Rose before (C.starved caller.new)) by) }
 {
     'items: loop {
         match reader.next_item() {
-            Given::Item(item) => match answer(caller, link, item) {
+            NextRequest::Request(item) => match answer(caller, link, item) {
                 Some(how) => return Some(how),
                 None => {}
             },
-            Given::More => return None,
-            Given::Done => return Some(How::Eof),
-            Given::NoMemory => return Some(tell_no_memory(link)),
+            NextRequest::More => return None,
+            NextRequest::Done => return Some(How::Eof),
+            NextRequest::NoMemory => return Some(tell_no_memory(link)),
         }
     }
 }
 
 // Answers one item.
-fn answer<C: Caller, L: Link>(caller: &mut C, link: &mut L, item: Item) -> Option<How>
+fn answer<C: Caller, L: Link>(caller: &mut C, link: &mut L, item: Request) -> Option<How>
     requires { MayBeAsked item.asked }
     ensures item { AnswersItem result item (C.standing caller.old) (C.standing caller.new) (Rose (C.starved caller.old) (C.starved caller.new)) (L.state link.old) (L.state link.new) }
     ensures starved { C.starved caller.old ≤ C.starved caller.new }
 {
-    let Item { line, asked } = item;
+    let Request { line, asked } = item;
     match asked {
-        Asked::Call(call) => answer_call(caller, link, line, call),
-        Asked::Syntax => tell(link, line, &Reply::Refused(Refusal::Syntax)),
-        Asked::Long => tell(link, line, &Reply::Refused(Refusal::Long)),
+        RequestKind::Call(call) => answer_call(caller, link, line, call),
+        RequestKind::Syntax => tell(link, line, &Reply::Refused(Refusal::Syntax)),
+        RequestKind::Long => tell(link, line, &Reply::Refused(Refusal::Long)),
     }
 }
 
@@ -131,7 +131,7 @@ fn answer_call<C: Caller, L: Link>(
     ensures starved { C.starved caller.old ≤ C.starved caller.new }
 {
     match caller.call(call) {
-        Answered::Entry => tell(link, line, caller.reply()),
+        Answered::Recorded => tell(link, line, caller.reply()),
         Answered::NoMemory => Some(tell_no_memory(link)),
         Answered::Spent => Some(How::TooMuch),
     }
@@ -140,7 +140,7 @@ fn answer_call<C: Caller, L: Link>(
 // Answers a line.
 fn tell<L: Link>(link: &mut L, line: u64, reply: &Reply) -> Option<How>
     requires { is_answer reply.now ≡ true }
-    ensures { Tells result line reply.now (L.state link.old) (L.state link.new) }
+    ensures { TellsReply result line reply.now (L.state link.old) (L.state link.new) }
 {
     match write_reply(line, reply, link) {
         Sent::Failed => Some(How::WriteFault),
@@ -160,7 +160,7 @@ fn ending_of(reply: &Reply) -> Option<How>
     }
 }
 
-// Tells that memory was wanting.
+// TellsReply that memory was wanting.
 fn tell_no_memory<L: Link>(link: &mut L) -> How
     ensures { TellsNoMemory result (L.state link.old) (L.state link.new) }
 {

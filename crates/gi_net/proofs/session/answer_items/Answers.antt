@@ -12,17 +12,17 @@ returns-in-Some-clause-session g c = λ start first before taken same count goin
     let h = g.C.Caller.standing c.items.caller in
     let k = g.C.Caller.standing c.answer.new.caller in
     let rose = rose_since before (g.C.Caller.starved c.items.caller) (g.C.Caller.starved c.answer.new.caller) (omega (arith, count, c.items.invariant.starved)) in
-    item_ends w k c.next_item.new.self c.in-Item.item c.in-Some.how
-    (c.items.invariant.going start first taken going) (c.items.invariant.link_end ∙ same ∙ sym c.items.invariant.reader_end) c.in-Item.ensures (starved_as c.in-Some.how c.in-Item.item h k v w rose c.in-Some.ensures.item)
+    item_ends w k c.next_item.new.self c.in-Request.item c.in-Some.how
+    (c.items.invariant.going start first taken going) (c.items.invariant.link_end ∙ same ∙ sym c.items.invariant.reader_end) c.in-Request.ensures (starved_as c.in-Some.how c.in-Request.item h k v w rose c.in-Some.ensures.item)
 
 pub items-preserved : goal.items-preserved
 items-preserved g c = record {
-  count = omega (arith, c.items.invariant.count, c.in-Item.ensures.count);
+  count = omega (arith, c.items.invariant.count, c.in-Request.ensures.count);
   starved = omega (arith, c.items.invariant.starved, c.in-None.ensures.starved);
   link_end = c.in-None.ensures.item.wrote.ended ∙ c.items.invariant.link_end;
-  reader_end = c.in-Item.ensures.ended ∙ c.items.invariant.reader_end;
+  reader_end = c.in-Request.ensures.ended ∙ c.items.invariant.reader_end;
   going = λ start first taken going.
-      item_goes (g.L.Link.state c.answer.new.link) (g.C.Caller.standing c.answer.new.caller) c.next_item.new.self c.in-Item.item (c.items.invariant.going start first taken going) c.in-Item.ensures c.in-None.ensures.item;
+      item_goes (g.L.Link.state c.answer.new.link) (g.C.Caller.standing c.answer.new.caller) c.next_item.new.self c.in-Request.item (c.items.invariant.going start first taken going) c.in-Request.ensures c.in-None.ensures.item;
 }
 
 pub returns-in-More-clause-session : goal.returns-in-More-clause-session

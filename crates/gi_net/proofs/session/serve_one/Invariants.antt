@@ -1,6 +1,6 @@
 use Rattle.std.proofs.Common.{◌≡◌, ◌+◌, ◌-◌, ◌^◌, ◌<◌, ◌≤◌, [], false}
 use Rattle.gi_wire.specs.Source.{ahead, last_line}
-use Rattle.gi_net.specs.Going.{Going}
+use Rattle.gi_net.specs.MidSession.{MidSession}
 use Rattle.gi_net.proofs.session.serve_one.Given as goal
 
 abbrev pub invariant-session : goal.invariant-session
@@ -11,7 +11,7 @@ invariant-session g l = record {
   count : last_line l.reader ≤ l.taken + 1;
   starved : g.C.Caller.starved l.fn.caller ≤ g.C.Caller.starved l.caller;
   most : l.taken < 2 ^ 62 + 4096;
-  going : Going (g.L.Link.state l.fn.link) (g.L.Link.state l.link) (g.C.Caller.standing l.fn.caller) (g.C.Caller.standing l.caller) l.reader l.taken;
+  going : MidSession (g.L.Link.state l.fn.link) (g.L.Link.state l.link) (g.C.Caller.standing l.fn.caller) (g.C.Caller.standing l.caller) l.reader l.taken;
 }
 
 abbrev pub decreases-session : goal.decreases-session

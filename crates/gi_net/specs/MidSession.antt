@@ -8,7 +8,7 @@ use Rattle.gi_outside.specs.declared.link.Piece.{Piece}
 use Rattle.gi_model.specs.History.{Entry}
 use Rattle.gi_wire.specs.Items.{items}
 use Rattle.gi_wire.specs.Source.{Comes, Source, ahead}
-use Rattle.gi_wire.specs.declared.reader.Item.{Item}
+use Rattle.gi_wire.specs.declared.reader.Request.{Request}
 use Rattle.gi_net.specs.Answers.{answers, calls, texts}
 use Rattle.gi_net.specs.Entries.{WorksForWaits, all_own_of, own_of, replies}
 use Rattle.gi_net.specs.Served.{IsPrompt, IsQuiet, IsShort}
@@ -16,7 +16,7 @@ use Rattle.gi_net.specs.Standing.{Standing}
 
 -- A session so far: what was added to tape and history, the items that were answered, what is ahead of the reader, and
 -- what was written. Own work may stand at the end where `last` holds.
-pub record SoFar (last : Type 0) (start now : World) (first here : Standing) (source : Source) (taken : ℕ) (done : List Item) (own : List Entry) (out : List ℕ) : Type 0 where
+pub record SoFar (last : Type 0) (start now : World) (first here : Standing) (source : Source) (taken : ℕ) (done : List Request) (own : List Entry) (out : List ℕ) : Type 0 where
   pub added : List Piece
   pub entries : List Entry
   pub tape : Adds start.tape now.tape added
@@ -36,8 +36,8 @@ pub record SoFar (last : Type 0) (start now : World) (first here : Standing) (so
   pub pieces : AllByRecursion IsShort added
 
 -- all answers so far were written, and the session goes on after each of them
-pub record Going (start now : World) (first here : Standing) (source : Source) (taken : ℕ) : Type 0 where
-  pub done : List Item
+pub record MidSession (start now : World) (first here : Standing) (source : Source) (taken : ℕ) : Type 0 where
+  pub done : List Request
   pub own : List Entry
   pub so_far : SoFar ⊥ start now first here source taken done own (texts (answers done (replies own)))
   pub quiet : AllByRecursion IsQuiet (answers done (replies own))
