@@ -16,6 +16,3 @@ pub use page::{Page, page_asked, print_page};
 pub use reading::read_words;
 pub use usage::usage_of;
 pub use words::{Words, take_words};
-
-#[cfg(test)]
-mod tests;

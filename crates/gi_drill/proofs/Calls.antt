@@ -3,7 +3,7 @@ use Rattle.std.proofs.Common.{◌≡◌, ◌≢◌, ℕ, ◌+◌, Bool, true, fa
 use Rattle.std.specs.List.{AllByRecursion}
 use Rattle.gi_lit.specs.Lists.{IsSublist}
 use Rattle.gi_lit.specs.Truth.{Satisfies, MakesTrue, Fail}
-use Rattle.gi_lit.specs.Problem.{Problem, force}
+use Rattle.gi_lit.specs.Problem.{Problem, in_force}
 use Rattle.gi_model.specs.Loads.{bad_payload}
 use Rattle.gi_model.specs.State.{State, Run, Solve, running, ended, alive, live_run, dead_state}
 use Rattle.gi_model.specs.Refusals.{refuses, tests, first_of, is_work}
@@ -147,8 +147,8 @@ at p pending known solve serial = record { problem = p; known = known; pending =
 
 -- what a solve found
 abbrev pub IsFound : Problem → List ℕ → Verdict → Type 0
-IsFound p assumed (Sat values) = Satisfies values (force p assumed) × MakesTrue values assumed
-IsFound p assumed (Unsat w) = IsSublist w assumed × Fail (force p w) w
+IsFound p assumed (Sat values) = Satisfies values (in_force p assumed) × MakesTrue values assumed
+IsFound p assumed (Unsat w) = IsSublist w assumed × Fail (in_force p w) w
 IsFound p assumed (Unknown c) = Unit {0}
 
 found : (s : State) (r : Run) (mark : ℕ) (news : List (List ℕ)) (v : Verdict) → EndsWork s r mark news (Ended v) → IsFound s.problem r.assumed v

@@ -14,8 +14,8 @@ use Rattle.gi_text.specs.Words.{words_from, words_of}
 use Rattle.gi_text.proofs.Spellings.{number-decimal}
 use Rattle.gi_text.proofs.Splits.{line_of_parts}
 use Rattle.gi_wire.specs.Grammar.{Makes, ask_of, call_alone, call_of, call_with}
-use Rattle.gi_wire.specs.declared.reader.Asked.TheVariants as asked
-use Rattle.gi_wire.specs.declared.reader.Item.{Item}
+use Rattle.gi_wire.specs.declared.reader.RequestKind.TheVariants as asked
+use Rattle.gi_wire.specs.declared.reader.Request.{Request}
 use Rattle.gi_wire.specs.Items.{alone, at_start, item, items_from}
 use Rattle.gi_wire.specs.Literals.{list_text}
 use Rattle.gi_wire.proofs.Reading.{line_first, nothing_ahead, short_line}
@@ -154,7 +154,7 @@ lines_read ended line (c ∷ cs) h =
     ∙ line_first ended line (alone line) [] (text ++ 10 ∷ rest) text rest [] first
     ∙ short_line line text (Makes c) (λ j p. items_from ended j p (rest ++ [])) (omega (arith, h.0.short)) h.0.asks
     ∙ ap (λ (xs : List ℕ). item line (asked.Call c) ∷ items_from ended (line + 1) (at_start (line + 1)) xs) (append-nil rest)
-    ∙ ap (λ (is : List Item). item line (asked.Call c) ∷ is) (lines_read ended (line + 1) cs h.1)
+    ∙ ap (λ (is : List Request). item line (asked.Call c) ∷ is) (lines_read ended (line + 1) cs h.1)
 
 pub script_read : ScriptIsRead
 script_read ended n = lines_read ended 1 (script n) (reads_script n)

@@ -5,7 +5,7 @@ use Rattle.std.proofs.lemmas.List.{append-nil}
 use Rattle.std.proofs.lemmas.List.Elements.{All-head, All-tail, All-nil}
 use Rattle.gi_lit.specs.Lists.{IsSublist}
 use Rattle.gi_lit.specs.Truth.{true_in, clause_true, Satisfies, Fail}
-use Rattle.gi_lit.specs.Problem.{Group, Problem, as_given, force, lit_count, top, without, without_groups, without_var}
+use Rattle.gi_lit.specs.Problem.{Group, Problem, as_given, in_force, lit_count, top, without, without_groups, without_var}
 use Rattle.gi_lit.proofs.Literals.{true_in-opposite}
 use Rattle.gi_lit.proofs.Agreeing.{opposite-odd}
 use Rattle.gi_model.specs.State.{Solve, no_solve, ended}
@@ -103,8 +103,8 @@ not_both values x a b =
     absurd cc
 
 -- no values satisfy a round
-round_fails : (plain : List (List ℕ)) (x : ℕ) (values : List Bool) → Satisfies values (force (held plain (group (2 * x) ∷ group (2 * x + 1) ∷ [])) (302 ∷ [])) → ⊥
-unfolding force
+round_fails : (plain : List (List ℕ)) (x : ℕ) (values : List Bool) → Satisfies values (in_force (held plain (group (2 * x) ∷ group (2 * x + 1) ∷ [])) (302 ∷ [])) → ⊥
+unfolding in_force
 round_fails plain x values h =
     let P : List ℕ → Type 0 = λ c. clause_true values c ≡ true in
     let both = All_right P plain ((2 * x ∷ []) ∷ ((2 * x + 1) ∷ []) ∷ []) h.each in
@@ -168,8 +168,8 @@ all_rounds goal (x ∷ xs) again v n a b plain known solve serial more es good f
 abbrev pub HasModel : List (List ℕ) → Type 0
 HasModel plain = (values : List Bool) × Satisfies values plain
 
-never_fails : (again : Bool) (plain : List (List ℕ)) (w : List ℕ) → HasModel plain → IsSublist w [] → Fail (force (between again plain) w) w → ⊥
-unfolding force
+never_fails : (again : Bool) (plain : List (List ℕ)) (w : List ℕ) → HasModel plain → IsSublist w [] → Fail (in_force (between again plain) w) w → ⊥
+unfolding in_force
 never_fails again plain [] model few h = h model.0 (subst (Satisfies model.0) (sym (append-nil plain)) model.1) (record { each = All-nil (λ l. true_in model.0 l ≡ true) })
 never_fails again plain (l ∷ w) model few h = absurd few
 

@@ -11,8 +11,8 @@ use Rattle.gi_model.specs.declared.replies.Reply.{Reply}
 use Rattle.gi_model.specs.declared.replies.Reply.TheVariants as reply
 use Rattle.gi_model.specs.declared.refusal.Refusal.TheVariants as refusal
 use Rattle.gi_wire.specs.Items.{item, items}
-use Rattle.gi_wire.specs.declared.reader.Asked.TheVariants as asked
-use Rattle.gi_wire.specs.declared.reader.Item.{Item}
+use Rattle.gi_wire.specs.declared.reader.RequestKind.TheVariants as asked
+use Rattle.gi_wire.specs.declared.reader.Request.{Request}
 use Rattle.gi_wire.proofs.Staying.{stay}
 use Rattle.gi_net.specs.Answers.{Answer, answers, calls}
 use Rattle.gi_net.specs.Entries.{replies}
@@ -26,24 +26,24 @@ calls_numbered : (line : ℕ) (cs : List Call) → calls (numbered line cs) ≡ 
 calls_numbered line [] = refl
 calls_numbered line (c ∷ cs) = ap (λ (ds : List Call). c ∷ ds) (calls_numbered (line + 1) cs)
 
-items_of : (is : List Item) (rs : List Reply) → map (λ (a : Answer). a.item) (answers is rs) ≡ is
+items_of : (is : List Request) (rs : List Reply) → map (λ (a : Answer). a.item) (answers is rs) ≡ is
 unfolding answers
 items_of [] rs = refl
-items_of (i ∷ is) rs = ap (λ (js : List Item). i ∷ js) (items_of is _)
+items_of (i ∷ is) rs = ap (λ (js : List Request). i ∷ js) (items_of is _)
 
 items_split : (before : List Answer) (last : Answer) → map (λ (a : Answer). a.item) (before ++ last ∷ []) ≡ map (λ (a : Answer). a.item) before ++ last.item ∷ []
 items_split [] last = refl
-items_split (a ∷ before) last = ap (λ (js : List Item). a.item ∷ js) (items_split before last)
+items_split (a ∷ before) last = ap (λ (js : List Request). a.item ∷ js) (items_split before last)
 
 -- nothing stands behind the only bye
-last_item : (before : List Call) (line : ℕ) (front tail : List Item) (i : Item) → AllByRecursion (λ c. c ≢ Bye) before → numbered line (before ++ Bye ∷ []) ≡ front ++ i ∷ tail → i.asked ≡ asked.Call Bye → tail ≡ []
+last_item : (before : List Call) (line : ℕ) (front tail : List Request) (i : Request) → AllByRecursion (λ c. c ≢ Bye) before → numbered line (before ++ Bye ∷ []) ≡ front ++ i ∷ tail → i.asked ≡ asked.Call Bye → tail ≡ []
 last_item [] line [] tail i other e is = cc
 last_item [] line (f ∷ []) tail i other e is = absurd cc
 last_item [] line (f ∷ g ∷ front) tail i other e is = absurd cc
 last_item (c ∷ before) line [] tail i other e is =
     let q : item line (asked.Call c) ∷ numbered (line + 1) (before ++ Bye ∷ []) ≡ i ∷ tail = e in
     let same : item line (asked.Call c) ≡ i = cc in
-    let both : asked.Call c ≡ asked.Call Bye = ap (λ (j : Item). j.asked) same ∙ is in
+    let both : asked.Call c ≡ asked.Call Bye = ap (λ (j : Request). j.asked) same ∙ is in
     absurd (other.0 cc)
 last_item (c ∷ before) line (f ∷ front) tail i other e is =
     let q : item line (asked.Call c) ∷ numbered (line + 1) (before ++ Bye ∷ []) ≡ f ∷ (front ++ i ∷ tail) = e in
@@ -70,33 +70,33 @@ lively_entries line (c ∷ cs) (e ∷ own) same h =
     let rest : map (λ (e : Entry). e.call) own ≡ cs = cc in
     (h.0, lively_entries (line + 1) cs own rest h.1)
 
-none_left : (a b : List Item) → a ++ b ≡ [] → a ≡ []
+none_left : (a b : List Request) → a ++ b ≡ [] → a ≡ []
 none_left [] b e = refl
 none_left (x ∷ a) b e = absurd cc
 
 -- the items of a beginning are a front of the script's
-front_of : (n : ℕ) (ended : Bool) (bytes rest : List ℕ) → bytes ++ rest ≡ script_text n → (ended ≡ true → rest ≡ []) → (more : List Item) × (numbered 1 (script n) ≡ items ended bytes ++ more)
+front_of : (n : ℕ) (ended : Bool) (bytes rest : List ℕ) → bytes ++ rest ≡ script_text n → (ended ≡ true → rest ≡ []) → (more : List Request) × (numbered 1 (script n) ≡ items ended bytes ++ more)
 front_of n false bytes rest same whole = let s = stay true bytes rest in (s.0, sym (script_read true n) ∙ ap (items true) (sym same) ∙ s.1)
 front_of n true bytes rest same whole =
     ([], sym (script_read true n) ∙ ap (items true) (sym same ∙ ap (λ (xs : List ℕ). bytes ++ xs) (whole refl) ∙ append-nil bytes) ∙ sym (append-nil (items true bytes)))
 
 -- all items were answered
-all_answered : (n : ℕ) (front rest more : List Item) (rs : List Reply) → numbered 1 (script n) ≡ (front ++ rest) ++ more → EndsByBye (answers front rs) → front ≡ numbered 1 (script n)
+all_answered : (n : ℕ) (front rest more : List Request) (rs : List Reply) → numbered 1 (script n) ≡ (front ++ rest) ++ more → EndsByBye (answers front rs) → front ≡ numbered 1 (script n)
 all_answered n front rest more rs e h =
     let b = bye_last n in
     let before = map (λ (a : Answer). a.item) h.by.before in
     let split : front ≡ before ++ h.by.last.item ∷ [] = sym (items_of front rs) ∙ ap (map (λ (a : Answer). a.item)) h.by.split ∙ items_split h.by.before h.by.last in
-    let full : numbered 1 (script n) ≡ before ++ h.by.last.item ∷ (rest ++ more) = e ∙ append_assoc front rest more ∙ ap (λ (xs : List Item). xs ++ (rest ++ more)) split ∙ append_assoc before (h.by.last.item ∷ []) (rest ++ more) in
+    let full : numbered 1 (script n) ≡ before ++ h.by.last.item ∷ (rest ++ more) = e ∙ append_assoc front rest more ∙ ap (λ (xs : List Request). xs ++ (rest ++ more)) split ∙ append_assoc before (h.by.last.item ∷ []) (rest ++ more) in
     let none : rest ++ more ≡ [] = last_item b.0 1 before (rest ++ more) h.by.last.item b.2 (ap (numbered 1) (sym b.1) ∙ full) h.asked in
-    split ∙ ap (λ (xs : List Item). before ++ h.by.last.item ∷ xs) (sym none) ∙ sym full
+    split ∙ ap (λ (xs : List Request). before ++ h.by.last.item ∷ xs) (sym none) ∙ sym full
 
 pub sessions : SessionsPlay
 sessions n ended bytes rest own left out same whole s =
     let f = front_of n ended bytes rest same whole in
-    let all : s.front ≡ numbered 1 (script n) = all_answered n s.front s.rest f.0 (replies own) (f.1 ∙ ap (λ (xs : List Item). xs ++ f.0) s.split) s.ends.0 in
+    let all : s.front ≡ numbered 1 (script n) = all_answered n s.front s.rest f.0 (replies own) (f.1 ∙ ap (λ (xs : List Request). xs ++ f.0) s.split) s.ends.0 in
     let made : map (λ (e : Entry). e.call) own ≡ script n = s.calls_are ∙ ap calls all ∙ calls_numbered 1 (script n) in
     let given : AllByRecursion (λ (a : Answer). IsLively a.reply) (answers s.front (replies own)) = subst (AllByRecursion (λ (a : Answer). IsLively a.reply)) (sym s.ends.0.by.split) (quiet_lively s.ends.0.by.before s.ends.0.by.last s.ends.0.by.quiet s.ends.0.by.is) in
-    (made, lively_entries 1 (script n) own made (subst (λ (is : List Item). AllByRecursion (λ (a : Answer). IsLively a.reply) (answers is (replies own))) all given))
+    (made, lively_entries 1 (script n) own made (subst (λ (is : List Request). AllByRecursion (λ (a : Answer). IsLively a.reply) (answers is (replies own))) all given))
 
 pub own_all : OwnCallsAreAll
 own_all number [] h = refl

@@ -5,8 +5,8 @@ use Rattle.gi_model.specs.declared.calls.Call.{Call}
 use Rattle.gi_model.specs.declared.calls.Call.TheVariants.{Vars, Add, NewGuard, Under, DropGuard, Assume, Solve, Wait, Bye}
 use Rattle.gi_wire.specs.Literals.{list_text}
 use Rattle.gi_wire.specs.Items.{item}
-use Rattle.gi_wire.specs.declared.reader.Asked.TheVariants as asked
-use Rattle.gi_wire.specs.declared.reader.Item.{Item}
+use Rattle.gi_wire.specs.declared.reader.RequestKind.TheVariants as asked
+use Rattle.gi_wire.specs.declared.reader.Request.{Request}
 use Rattle.gi_drill.specs.Instance.{clauses}
 
 -- the guard of each round
@@ -56,6 +56,6 @@ abbrev pub script_text : ℕ → List ℕ
 script_text n = lines_text (script n)
 
 -- each call is an item, under the number of its line
-abbrev pub numbered : ℕ → List Call → List Item
+abbrev pub numbered : ℕ → List Call → List Request
 numbered line [] = []
 numbered line (call ∷ calls) = item line (asked.Call call) ∷ numbered (line + 1) calls
