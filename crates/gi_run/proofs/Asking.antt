@@ -9,9 +9,9 @@ use Rattle.gi_wire.specs.declared.call.Kind.{Kind}
 use Rattle.gi_wire.specs.declared.call.Kind.TheVariants.{Cnf}
 use Rattle.gi_wire.specs.Grammar.{Ask, Makes, Loads, ask_of, call_alone, call_of, call_with, count_at, guard_at, guards_at, list_at, literal_at, load_of, load_with, or_else, short_call, under_by, under_guards, under_of, under_one}
 use Rattle.gi_wire.specs.Items.{Joined, Place, InLine, InLoad, at_end, at_line, at_load, at_start, cut, cut_lines, goes_on_by, is_long, items, items_from, join, line_at_by, line_by, load_call, then_after, then_next}
-use Rattle.gi_wire.specs.declared.reader.Asked.{Asked}
-use Rattle.gi_wire.specs.declared.reader.Asked.TheVariants as asked
-use Rattle.gi_wire.specs.declared.reader.Item.{Item}
+use Rattle.gi_wire.specs.declared.reader.RequestKind.{RequestKind}
+use Rattle.gi_wire.specs.declared.reader.RequestKind.TheVariants as asked
+use Rattle.gi_wire.specs.declared.reader.Request.{Request}
 use Rattle.gi_net.specs.Answers.{call_in, calls}
 use Rattle.gi_run.proofs.Having.{Has, has_left}
 
@@ -109,18 +109,18 @@ of_words (name ∷ words) = go (bytes_eq name (codes "load"))
     go true = loads_of words
     go false = made (call_of (name ∷ words)) (by_words (name ∷ words))
 
-abbrev AsksShut : Item → Type 0
+abbrev AsksShut : Request → Type 0
 AsksShut i = i.asked ≡ asked.Call call.Shut
 
 -- nothing that comes next is a shut
-abbrev Never : (ℕ → Place → List Item) → Type 0
+abbrev Never : (ℕ → Place → List Request) → Type 0
 Never next = (line : ℕ) (place : Place) → ¬ Has AsksShut (next line place)
 
-never_after : (first line : ℕ) (what : Asked) (next : ℕ → Place → List Item) → what ≢ asked.Call call.Shut → Never next → ¬ Has AsksShut (then_after first line what next)
+never_after : (first line : ℕ) (what : RequestKind) (next : ℕ → Place → List Request) → what ≢ asked.Call call.Shut → Never next → ¬ Has AsksShut (then_after first line what next)
 never_after first line what next other rest (inl here) = other here
 never_after first line what next other rest (inr there) = rest (line + 1) (at_start (line + 1)) there
 
-never_load : (line : ℕ) (kind : Kind) (got : List ℕ) (missing : ℕ) (next : ℕ → Place → List Item) → Never next → ¬ Has AsksShut (at_load line kind got missing next)
+never_load : (line : ℕ) (kind : Kind) (got : List ℕ) (missing : ℕ) (next : ℕ → Place → List Request) → Never next → ¬ Has AsksShut (at_load line kind got missing next)
 unfolding at_load
 never_load line kind got missing next rest h = go (missing == 0) h
   where
@@ -128,12 +128,12 @@ never_load line kind got missing next rest h = go (missing == 0) h
     go true h = never_after line line (asked.Call (load_call kind got)) next (λ e. load_other kind got cc) rest h
     go false h = rest line (InLoad kind got missing) h
 
-never_by : (first line : ℕ) (o : Option Ask) (next : ℕ → Place → List Item) → IsOther o → Never next → ¬ Has AsksShut (line_by first line o next)
+never_by : (first line : ℕ) (o : Option Ask) (next : ℕ → Place → List Request) → IsOther o → Never next → ¬ Has AsksShut (line_by first line o next)
 never_by first line None next n rest h = never_after first line asked.Syntax next (λ e. absurd cc) rest h
 never_by first line (Some (Makes c)) next n rest h = never_after first line (asked.Call c) next (λ e. n cc) rest h
 never_by first line (Some (Loads kind len)) next n rest h = never_load line kind [] len next rest h
 
-never_line : (line : ℕ) (joined : Joined) (bytes : List ℕ) (next : ℕ → Place → List Item) → Never next → ¬ Has AsksShut (at_line line joined bytes next)
+never_line : (line : ℕ) (joined : Joined) (bytes : List ℕ) (next : ℕ → Place → List Request) → Never next → ¬ Has AsksShut (at_line line joined bytes next)
 unfolding at_line
 never_line line joined bytes next rest h = go (is_long joined bytes) (goes_on_by joined.words (words_of bytes)) h
   where
@@ -169,11 +169,11 @@ never_from (b ∷ bs) ended line (InLine joined begun) h = go (never_from bs end
     go rest false h = rest line (InLine joined (begun ++ b ∷ [])) h
 never_from (b ∷ bs) ended line (InLoad kind got missing) h = never_load line kind (got ++ b ∷ []) (missing - 1) (λ k place. items_from ended k place bs) (never_from bs ended) h
 
-asked_by_item : (is : List Item) → Has (λ (c : Call). c ≡ call.Shut) (calls is) → Has AsksShut is
+asked_by_item : (is : List Request) → Has (λ (c : Call). c ≡ call.Shut) (calls is) → Has AsksShut is
 asked_by_item [] h = h
 asked_by_item (i ∷ is) h = go (asked_by_item is) i.asked h
   where
-    go : (Has (λ (c : Call). c ≡ call.Shut) (calls is) → Has AsksShut is) → (a : Asked) → Has (λ (c : Call). c ≡ call.Shut) (option_to_list (call_in a) ++ calls is)
+    go : (Has (λ (c : Call). c ≡ call.Shut) (calls is) → Has AsksShut is) → (a : RequestKind) → Has (λ (c : Call). c ≡ call.Shut) (option_to_list (call_in a) ++ calls is)
         → (a ≡ asked.Call call.Shut) ⊎ Has AsksShut is
     go rest (asked.Call c) (inl here) = inl (ap asked.Call here)
     go rest (asked.Call c) (inr there) = inr (rest there)
@@ -181,6 +181,6 @@ asked_by_item (i ∷ is) h = go (asked_by_item is) i.asked h
     go rest asked.Long there = inr (rest there)
 
 -- so no call of an input's items is a shut
-pub never_called : (ended : Bool) (bytes : List ℕ) (front rest : List Item) → items ended bytes ≡ front ++ rest → ¬ Has (λ (c : Call). c ≡ call.Shut) (calls front)
+pub never_called : (ended : Bool) (bytes : List ℕ) (front rest : List Request) → items ended bytes ≡ front ++ rest → ¬ Has (λ (c : Call). c ≡ call.Shut) (calls front)
 never_called ended bytes front rest split h =
     never_from bytes ended 1 (at_start 1) (subst (Has AsksShut) (sym split) (has_left AsksShut front rest (asked_by_item front h)))

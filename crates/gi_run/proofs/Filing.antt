@@ -16,17 +16,17 @@ use Rattle.gi_model.specs.declared.replies.Reply.{Reply}
 use Rattle.gi_model.specs.declared.replies.Reply.TheVariants as reply
 use Rattle.gi_net.specs.Entries.{all_own_of, own_of, is_work}
 use Rattle.gi_net.specs.Standing.{Standing}
-use Rattle.gi_solving.specs.Doing.{Does}
-use Rattle.gi_solving.specs.Done.{AreProper, IsDenied, is_proper}
-use Rattle.gi_solving.specs.Grown.{Grown}
-use Rattle.gi_solving.specs.Laws.{AreGood, AsksAreWritten, CallsAreAnswered, FailuresAreTrue, IsHistoryOf, IsUnstopped, ModelsAreTrue, StandsIn, UnknownIsSpent, has_failed, lacks_memory}
-use Rattle.gi_solving.specs.Solves.{Answers, Solves, Stops}
-use Rattle.gi_solving.specs.Steps.{HasSteps, Step}
-use Rattle.gi_solving.specs.declared.answer.Answer.{Answer}
-use Rattle.gi_solving.specs.declared.answer.Solved.{Solved}
-use Rattle.gi_solving.specs.declared.answer.Solved.TheVariants as solved
-use Rattle.gi_solving.specs.declared.answer.Stop.{Stop}
-use Rattle.gi_solving.specs.declared.answer.Stop.TheVariants as stops
+use Rattle.gi_batch.specs.Doing.{Does}
+use Rattle.gi_batch.specs.Done.{AreProper, IsDenied, is_proper}
+use Rattle.gi_batch.specs.Grown.{Grown}
+use Rattle.gi_batch.specs.Laws.{AreGood, AsksAreWritten, CallsAreAnswered, FailuresAreTrue, IsHistoryOf, IsUnstopped, ModelsAreTrue, StandsIn, UnknownIsSpent, has_failed, lacks_memory}
+use Rattle.gi_batch.specs.Solves.{AnswersSolve, Solves, Stops}
+use Rattle.gi_batch.specs.Steps.{HasSteps, BatchStep}
+use Rattle.gi_batch.specs.declared.answer.Answer.{Answer}
+use Rattle.gi_batch.specs.declared.answer.Solved.{Solved}
+use Rattle.gi_batch.specs.declared.answer.Solved.TheVariants as solved
+use Rattle.gi_batch.specs.declared.answer.Stop.{Stop}
+use Rattle.gi_batch.specs.declared.answer.Stop.TheVariants as stops
 use Rattle.gi_run.specs.Kept.{IsHistory, IsOwn}
 use Rattle.gi_run.specs.Seen.{Seen, standing}
 use Rattle.gi_run.specs.Shutting.{HasLostWork}
@@ -40,19 +40,19 @@ all_own n (e ∷ es) h = rw (eq-eqb e.by n (All-head (IsOwn n) e es h).by) (ap (
 
 -- the calls of a good file were begun
 pub record Began (form : Form) (bytes : List ℕ) (budget : ℕ) (before after : Standing) : Type 0 where
-  pub steps : List Step
+  pub steps : List BatchStep
   pub are : HasSteps form bytes steps
   pub calls : List Entry
   pub rest : List Entry
   pub grown : Grown before after calls
   pub does : Does budget steps (calls ++ rest)
 
-good_of : (form : Form) (bytes : List ℕ) (steps : List Step) → HasSteps form bytes steps → AreGood steps
+good_of : (form : Form) (bytes : List ℕ) (steps : List BatchStep) → HasSteps form bytes steps → AreGood steps
 good_of forms.Cnf bytes steps h = inl (h.0, good_values.only h.0 bytes h.1, h.2)
 good_of forms.Icnf bytes steps h = inr (h.0, good_values.only_icnf h.0 bytes h.1, h.2)
 
 module _ (form : Form) (budget : ℕ) (old mid new : World) (before after : Standing) (bytes : List ℕ) where
-  abbrev answered_began : (answer : Answer) → Answers answer form budget old mid new before after bytes → Began form bytes budget before after
+  abbrev answered_began : (answer : Answer) → AnswersSolve answer form budget old mid new before after bytes → Began form bytes budget before after
   answered_began answer a = record {
     steps = a.steps;
     are = a.are;

@@ -16,7 +16,7 @@ use Rattle.gi_net.proofs.Completing.{whole}
 use Rattle.gi_run.specs.Kept.{IsHistory, IsOwn}
 use Rattle.gi_run.specs.Outcome.{Hosts, Runs, exit_status}
 use Rattle.gi_run.specs.Seen.{Seen, standing}
-use Rattle.gi_run.specs.Shutting.{Ends, HasEnded, HasLostWork, HasNoRoom, Shuts}
+use Rattle.gi_run.specs.Shutting.{EndsSolve, HasEnded, HasLostWork, HasNoRoom, Shuts}
 use Rattle.gi_run.proofs.Having.{Has, has_contained}
 use Rattle.gi_run.proofs.Lost.{lost_work}
 use Rattle.gi_run.proofs.Over.{ended_in}
@@ -42,11 +42,11 @@ pub kept_mid : (mid after : Standing) → Shuts mid after → IsHistory after.nu
 kept_mid mid after (inl shut) kept = kept_front mid.number mid.history _ (subst (IsHistory mid.number) shut.history (subst (λ (n : ℕ). IsHistory n after.history) shut.number kept))
 kept_mid mid after (inr none) kept = subst (λ (s : Standing). IsHistory s.number s.history) none.1 kept
 
-ended : (old new : World) (before mid : Standing) (s : Session old new before mid how.Dead) → IsHistory mid.number mid.history → Has Ends (before.history ++ s.entries)
+ended : (old new : World) (before mid : Standing) (s : Session old new before mid how.Dead) → IsHistory mid.number mid.history → Has EndsSolve (before.history ++ s.entries)
 ended old new before mid s kept = ended_in before.history s.entries (own_of before.number s.entries) _ s.served.front (subst (λ (es : List Entry). IsLegalFrom opening es) s.history kept.legal.each) refl s.served.ends.0
 
 over : (old new : World) (before mid : Standing) (by : How) → Session old new before mid by → IsHistory mid.number mid.history → by ≡ how.Dead → HasEnded mid.history
-over old new before mid how.Dead s kept e = subst HasEnded (sym s.history) (has_contained Ends (before.history ++ s.entries) (ended old new before mid s kept))
+over old new before mid how.Dead s kept e = subst HasEnded (sym s.history) (has_contained EndsSolve (before.history ++ s.entries) (ended old new before mid s kept))
 over old new before mid by s kept e = absurd cc
 
 lost : (old new : World) (p : Seen) (mid : Standing) (by : How) (s : Session old new (standing p) mid by) → IsHistory mid.number mid.history → by ≡ how.Dead → ¬ HasEnded p.history → HasLostWork s.entries

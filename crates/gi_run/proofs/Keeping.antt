@@ -15,7 +15,7 @@ use Rattle.gi_model.specs.declared.phase.Phase.TheVariants as phase
 use Rattle.gi_model.specs.declared.replies.Reply.{Reply}
 use Rattle.gi_model.specs.declared.replies.Reply.TheVariants as reply
 use Rattle.gi_model.proofs.Entering.{after_push, legal_push}
-use Rattle.gi_run.specs.Kept.{IsKept, IsOwn}
+use Rattle.gi_run.specs.Kept.{IsRoomKept, IsOwn}
 use Rattle.gi_run.specs.Passing.{HasNoted}
 use Rattle.gi_run.specs.Seen.{Seen, history_of, own}
 use Rattle.gi_run.specs.declared.entry.Entry.{Entry as Noted}
@@ -58,7 +58,7 @@ busy s mark r live a = let run = has_run s live in go (live_run s) run.0 run.1 a
     go o run e (inr x) = λ idle. (let no : reply.NoMemory ≡ reply.Idle = sym x.0 ∙ idle in absurd cc)
 
 -- nothing was called yet
-pub kept_opening : (n : ℕ) (machine : State) → machine ≡ opening → IsKept n machine []
+pub kept_opening : (n : ℕ) (machine : State) → machine ≡ opening → IsRoomKept n machine []
 unfolding after_all
 kept_opening n machine e = record {
   history = record { legal = record { each = tt }; own = All-nil (IsOwn n) };
@@ -69,8 +69,8 @@ kept_opening n machine e = record {
 pub noted : (n : ℕ) (before after : List Noted) (e : Noted) → after ≡ before ++ e ∷ [] → history_of n after ≡ history_of n before ++ own n e ∷ []
 noted n before after e is = ap (history_of n) is ∙ map-append (own n) before (e ∷ [])
 
-more : (n : ℕ) (old new : State) (es : List Entry) (c : Call) (r : Reply) → IsKept n old es → ((mark : ℕ) → c ≡ call.Work mark → mark ≡ 0) → r ≢ reply.Idle → Step old c r new
-    → IsKept n new (es ++ record { by = n; call = c; reply = r } ∷ [])
+more : (n : ℕ) (old new : State) (es : List Entry) (c : Call) (r : Reply) → IsRoomKept n old es → ((mark : ℕ) → c ≡ call.Work mark → mark ≡ 0) → r ≢ reply.Idle → Step old c r new
+    → IsRoomKept n new (es ++ record { by = n; call = c; reply = r } ∷ [])
 more n old new es c r was marks busy step = record {
   history = record {
     legal = record { each = legal_push es (record { by = n; call = c; reply = r }) opening was.history.legal.each (subst (λ s. Allows s c r) was.state step.allowed) };
@@ -80,9 +80,9 @@ more n old new es c r was marks busy step = record {
 }
 
 pub kept_more : (n : ℕ) (old new : State) (before after : List Noted) (c : Call) (r : Reply) → after ≡ before ++ record { call = c; reply = r } ∷ []
-    → IsKept n old (history_of n before) → ((mark : ℕ) → c ≡ call.Work mark → mark ≡ 0) → r ≢ reply.Idle → Step old c r new → IsKept n new (history_of n after)
+    → IsRoomKept n old (history_of n before) → ((mark : ℕ) → c ≡ call.Work mark → mark ≡ 0) → r ≢ reply.Idle → Step old c r new → IsRoomKept n new (history_of n after)
 kept_more n old new before after c r is was marks busy step =
-    subst (IsKept n new) (sym (noted n before after (record { call = c; reply = r }) is)) (more n old new (history_of n before) c r was marks busy step)
+    subst (IsRoomKept n new) (sym (noted n before after (record { call = c; reply = r }) is)) (more n old new (history_of n before) c r was marks busy step)
 
 -- and with one call fewer, and less room
 pub noted_more : (n : ℕ) (s : Seen) (before after : List Noted) (c : Call) (r : Reply) (left left_now capacity capacity_now : ℕ)

@@ -9,15 +9,15 @@ use Rattle.gi_model.specs.declared.replies.Reply.{Reply}
 use Rattle.gi_model.specs.declared.replies.Reply.TheVariants as reply
 use Rattle.gi_model.specs.declared.refusal.Refusal.TheVariants as refusal
 use Rattle.gi_wire.specs.Items.{items}
-use Rattle.gi_wire.specs.declared.reader.Asked.{Asked}
-use Rattle.gi_wire.specs.declared.reader.Asked.TheVariants as asked
-use Rattle.gi_wire.specs.declared.reader.Item.{Item}
+use Rattle.gi_wire.specs.declared.reader.RequestKind.{RequestKind}
+use Rattle.gi_wire.specs.declared.reader.RequestKind.TheVariants as asked
+use Rattle.gi_wire.specs.declared.reader.Request.{Request}
 use Rattle.gi_net.specs.Answers.{Answer, answers, call_in, calls, replies_after, reply_for}
 use Rattle.gi_net.specs.Entries.{is_work, own_of, replies}
 use Rattle.gi_net.specs.Served.{EndsBy, IsQuiet}
 use Rattle.gi_net.proofs.Answering.{replies_fit}
 use Rattle.gi_run.specs.Kept.{IsOwn}
-use Rattle.gi_run.specs.Shutting.{Ends, HasEnded, HasLostWork}
+use Rattle.gi_run.specs.Shutting.{EndsSolve, HasEnded, HasLostWork}
 use Rattle.gi_run.proofs.Asking.{never_called}
 use Rattle.gi_run.proofs.Having.{Has, has_contained, has_split}
 
@@ -51,11 +51,11 @@ module _ (P : Entry → Type 0) (only_lost : (e : Entry) → is_work e.call ≡ 
       go false h = h
 
 -- work is told to end the machine only by want of memory
-ends_lost : (e : Entry) → is_work e.call ≡ true → Ends e → e.reply ≡ reply.NoMemory
+ends_lost : (e : Entry) → is_work e.call ≡ true → EndsSolve e → e.reply ≡ reply.NoMemory
 ends_lost e w (inl shut) = absurd (no_shut e.call w shut.0)
 ends_lost e w (inr starved) = starved
 
-shut_or_starved : (es : List Entry) → Has Ends es → Has (λ (c : Call). c ≡ call.Shut) (map (λ (e : Entry). e.call) es) ⊎ Has IsStarved (replies es)
+shut_or_starved : (es : List Entry) → Has EndsSolve es → Has (λ (c : Call). c ≡ call.Shut) (map (λ (e : Entry). e.call) es) ⊎ Has IsStarved (replies es)
 shut_or_starved [] h = absurd h
 shut_or_starved (e ∷ es) (inl (inl shut)) = inl (inl shut.0)
 shut_or_starved (e ∷ es) (inl (inr starved)) = inr (inl starved)
@@ -65,13 +65,13 @@ abbrev TellsStarved : Answer → Type 0
 TellsStarved a = a.reply ≡ reply.NoMemory
 
 -- every reply is an answer
-told : (is : List Item) (rs : List Reply) → length (calls is) ≡ length rs → Has IsStarved rs → Has TellsStarved (answers is rs)
+told : (is : List Request) (rs : List Reply) → length (calls is) ≡ length rs → Has IsStarved rs → Has TellsStarved (answers is rs)
 unfolding answers
 told [] [] len h = absurd h
 told [] (r ∷ rs) len h = absurd (omega (arith, len))
 told (i ∷ is) rs len h = go (told is) i.asked rs len h
   where
-    go : ((rs : List Reply) → length (calls is) ≡ length rs → Has IsStarved rs → Has TellsStarved (answers is rs)) → (a : Asked) (rs : List Reply)
+    go : ((rs : List Reply) → length (calls is) ≡ length rs → Has IsStarved rs → Has TellsStarved (answers is rs)) → (a : RequestKind) (rs : List Reply)
         → length (option_to_list (call_in a) ++ calls is) ≡ length rs → Has IsStarved rs → (reply_for a rs ≡ reply.NoMemory) ⊎ Has TellsStarved (answers is (replies_after a rs))
     go rest (asked.Call c) [] len h = absurd h
     go rest (asked.Call c) (r ∷ rs) len (inl here) = inl here
@@ -91,20 +91,20 @@ not_told given ends h = elim (has_split TellsStarved ends.before (ends.last ∷ 
 ]
 
 -- the calls of a session that was ended by a refusal for good are no such entries
-not_called : (ended : Bool) (bytes : List ℕ) (front rest : List Item) (own : List Entry) → items ended bytes ≡ front ++ rest → map (λ (e : Entry). e.call) own ≡ calls front
-    → EndsBy (answers front (replies own)) (reply.Refused refusal.Dead) → ¬ Has Ends own
+not_called : (ended : Bool) (bytes : List ℕ) (front rest : List Request) (own : List Entry) → items ended bytes ≡ front ++ rest → map (λ (e : Entry). e.call) own ≡ calls front
+    → EndsBy (answers front (replies own)) (reply.Refused refusal.Dead) → ¬ Has EndsSolve own
 not_called ended bytes front rest own split same ends h = elim (shut_or_starved own h) [
   | inl shut ↦ never_called ended bytes front rest split (subst (Has (λ (c : Call). c ≡ call.Shut)) same shut)
   | inr starved ↦ not_told (answers front (replies own)) ends (told front (replies own) (replies_fit front own same) starved)
 ]
 
 -- so it was lost work
-pub lost_work : (n : ℕ) (seen entries : List Entry) (ended : Bool) (bytes : List ℕ) (front rest : List Item) → All (IsOwn n) entries → Has Ends (seen ++ entries) → ¬ HasEnded seen
+pub lost_work : (n : ℕ) (seen entries : List Entry) (ended : Bool) (bytes : List ℕ) (front rest : List Request) → All (IsOwn n) entries → Has EndsSolve (seen ++ entries) → ¬ HasEnded seen
     → items ended bytes ≡ front ++ rest → map (λ (e : Entry). e.call) (own_of n entries) ≡ calls front
     → EndsBy (answers front (replies (own_of n entries))) (reply.Refused refusal.Dead) → HasLostWork entries
-lost_work n seen entries ended bytes front rest own ends fresh split same by = elim (has_split Ends seen entries ends) [
-  | inl before ↦ absurd (fresh (has_contained Ends seen before))
-  | inr here ↦ elim (lost_or_called Ends ends_lost n entries own here) [
+lost_work n seen entries ended bytes front rest own ends fresh split same by = elim (has_split EndsSolve seen entries ends) [
+  | inl before ↦ absurd (fresh (has_contained EndsSolve seen before))
+  | inr here ↦ elim (lost_or_called EndsSolve ends_lost n entries own here) [
     | inl lost ↦ (let h = has_contained IsLost entries lost in (h.0, h.1, h.2.0, h.2.1))
     | inr called ↦ absurd (not_called ended bytes front rest (own_of n entries) split same by called)
   ]

@@ -16,26 +16,26 @@ use Rattle.gi_model.specs.declared.replies.Reply.TheVariants as reply
 use Rattle.gi_model.specs.declared.refusal.Refusal.{Refusal}
 use Rattle.gi_model.specs.declared.refusal.Refusal.TheVariants as refusal
 use Rattle.gi_model.proofs.Entering.{refused_is}
-use Rattle.gi_wire.specs.declared.reader.Asked.{Asked}
-use Rattle.gi_wire.specs.declared.reader.Asked.TheVariants as asked
-use Rattle.gi_wire.specs.declared.reader.Item.{Item}
+use Rattle.gi_wire.specs.declared.reader.RequestKind.{RequestKind}
+use Rattle.gi_wire.specs.declared.reader.RequestKind.TheVariants as asked
+use Rattle.gi_wire.specs.declared.reader.Request.{Request}
 use Rattle.gi_net.specs.Answers.{Answer, answers, replies_after, reply_for}
 use Rattle.gi_net.specs.Entries.{replies}
 use Rattle.gi_net.specs.Served.{EndsBy}
-use Rattle.gi_run.specs.Shutting.{Ends}
+use Rattle.gi_run.specs.Shutting.{EndsSolve}
 use Rattle.gi_run.proofs.Having.{Has, has_right, has_unfiltered}
 
 -- a refusal for good
 abbrev pub IsDead : Reply → Type 0
 IsDead r = r ≡ reply.Refused refusal.Dead
 
-unused : (a : Asked) (rs : List Reply) → Has IsDead (replies_after a rs) → Has IsDead rs
+unused : (a : RequestKind) (rs : List Reply) → Has IsDead (replies_after a rs) → Has IsDead rs
 unused (asked.Call c) [] h = h
 unused (asked.Call c) (r ∷ rs) h = inr h
 unused asked.Syntax rs h = h
 unused asked.Long rs h = h
 
-used : (a : Asked) (rs : List Reply) → IsDead (reply_for a rs) → Has IsDead rs
+used : (a : RequestKind) (rs : List Reply) → IsDead (reply_for a rs) → Has IsDead rs
 used (asked.Call c) [] h = absurd cc
 used (asked.Call c) (r ∷ rs) h = inl h
 used asked.Syntax rs h = absurd cc
@@ -48,7 +48,7 @@ first_is x y xs ys e = cc
 pub rest_is : (x y : Answer) (xs ys : List Answer) → x ∷ xs ≡ y ∷ ys → xs ≡ ys
 rest_is x y xs ys e = cc
 
-pub dead_reply : (is : List Item) (rs : List Reply) (before : List Answer) (last : Answer) → answers is rs ≡ before ++ last ∷ [] → IsDead last.reply → Has IsDead rs
+pub dead_reply : (is : List Request) (rs : List Reply) (before : List Answer) (last : Answer) → answers is rs ≡ before ++ last ∷ [] → IsDead last.reply → Has IsDead rs
 unfolding answers
 dead_reply [] rs before last e d = let no : 0 ≡ length before + 1 = ap length e ∙ length-append before (last ∷ []) in absurd (omega (arith, no))
 dead_reply (i ∷ is) rs [] last e d = used i.asked rs (ap (λ (a : Answer). a.reply) (first_is (record { item = i; reply = reply_for i.asked rs }) last (answers is (replies_after i.asked rs)) [] e) ∙ d)
@@ -131,7 +131,7 @@ shut_done s r a = go (refuses s call.Shut) a.replied
     go None (inr x) = absurd (let no = x.1 in cc)
 
 -- where a machine goes over, the entry is one by which it does
-ends_it : (s : State) (e : Entry) → Allows s e.call e.reply → is_over s.life ≡ false → is_over (after s e.call e.reply).life ≡ true → Ends e
+ends_it : (s : State) (e : Entry) → Allows s e.call e.reply → is_over s.life ≡ false → is_over (after s e.call e.reply).life ≡ true → EndsSolve e
 ends_it s e a f t = elim (life_after s e.call e.reply) [
   | inl no_memory ↦ inr no_memory
   | inr (inl is) ↦ elim (shut_done s e.reply (subst (λ (c : Call). Allows s c e.reply) is a)) [
@@ -142,7 +142,7 @@ ends_it s e a f t = elim (life_after s e.call e.reply) [
 ]
 
 -- a call is refused for good only behind such an entry
-pub ended_before : (es : List Entry) (s : State) → is_over s.life ≡ false → IsLegalFrom s es → Has (λ (e : Entry). IsDead e.reply) es → Has Ends es
+pub ended_before : (es : List Entry) (s : State) → is_over s.life ≡ false → IsLegalFrom s es → Has (λ (e : Entry). IsDead e.reply) es → Has EndsSolve es
 ended_before [] s f legal h = h
 ended_before (e ∷ es) s f legal (inl here) =
     let over = named_dead s e.call (refused_is s e.call refusal.Dead (subst (λ (r : Reply). Allows s e.call r) here legal.0)) in
@@ -153,8 +153,8 @@ ended_before (e ∷ es) s f legal (inr there) = elim (cases_Bool (is_over (after
 ]
 
 -- so such an entry stands in the history of a session that was ended by such a refusal
-pub ended_in : (seen entries own : List Entry) (p : Entry → Bool) (is : List Item) → IsLegalFrom opening (seen ++ entries) → filter p entries ≡ own
-    → EndsBy (answers is (replies own)) (reply.Refused refusal.Dead) → Has Ends (seen ++ entries)
+pub ended_in : (seen entries own : List Entry) (p : Entry → Bool) (is : List Request) → IsLegalFrom opening (seen ++ entries) → filter p entries ≡ own
+    → EndsBy (answers is (replies own)) (reply.Refused refusal.Dead) → Has EndsSolve (seen ++ entries)
 ended_in seen entries own p is legal owns ends =
     let asked : Has (λ (e : Entry). IsDead e.reply) own = dead_entry own (dead_reply is (replies own) ends.before ends.last ends.split ends.is) in
     let entered : Has (λ (e : Entry). IsDead e.reply) entries = has_unfiltered (λ (e : Entry). IsDead e.reply) p entries (subst (Has (λ (e : Entry). IsDead e.reply)) (sym owns) asked) in

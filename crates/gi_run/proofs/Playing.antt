@@ -14,9 +14,9 @@ use Rattle.gi_model.specs.declared.replies.Reply.{Reply}
 use Rattle.gi_model.specs.declared.replies.Reply.TheVariants as reply
 use Rattle.gi_wire.specs.Items.{items}
 use Rattle.gi_wire.specs.Laws.{ItemsStay}
-use Rattle.gi_wire.specs.declared.reader.Asked.{Asked}
-use Rattle.gi_wire.specs.declared.reader.Asked.TheVariants as asked
-use Rattle.gi_wire.specs.declared.reader.Item.{Item}
+use Rattle.gi_wire.specs.declared.reader.RequestKind.{RequestKind}
+use Rattle.gi_wire.specs.declared.reader.RequestKind.TheVariants as asked
+use Rattle.gi_wire.specs.declared.reader.Request.{Request}
 use Rattle.gi_net.specs.Answers.{Answer, answers, call_in, calls, replies_after, reply_for}
 use Rattle.gi_net.specs.Entries.{is_work as worked, own_of, replies}
 use Rattle.gi_net.specs.Served.{IsQuiet}
@@ -31,7 +31,7 @@ use Rattle.gi_drill.specs.Script.{numbered, script, script_text}
 use Rattle.gi_drill.specs.declared.tally.Tally.{Tally}
 use Rattle.gi_run.specs.declared.drilling.Drilled.{Drilled}
 use Rattle.gi_run.specs.declared.drilling.Drilled.TheVariants as drilled
-use Rattle.gi_run.specs.Drilling.{AreCounted, Ends, HasDrilled, IsPlayed, IsUndisturbed, Tells}
+use Rattle.gi_run.specs.Drilling.{AreCounted, DrillEnds, HasDrilled, IsPlayed, IsUndisturbed, TellsDrill}
 use Rattle.gi_run.specs.Kept.{IsHistory, IsOwn}
 use Rattle.gi_run.specs.Outcome.{Hosts}
 use Rattle.gi_run.specs.Seen.{Seen, history_of, own, standing}
@@ -56,7 +56,7 @@ tally_more n es history i x same lt is =
     ap tally_of (take_more history i (own n x) len ∙ ap (λ y. take i history ++ y ∷ []) at) ∙ tally_push (take i history) (own n x) _
 
 -- the items of a front of the bytes are a front of the items of all
-pub front_items : (stay : ItemsStay) (ended : Bool) (bytes rest : List ℕ) → (ended ≡ true → rest ≡ []) → (more : List Item) × (items ended bytes ++ more ≡ items ended (bytes ++ rest))
+pub front_items : (stay : ItemsStay) (ended : Bool) (bytes rest : List ℕ) → (ended ≡ true → rest ≡ []) → (more : List Request) × (items ended bytes ++ more ≡ items ended (bytes ++ rest))
 front_items stay true bytes rest none = ([], append-nil (items true bytes) ∙ sym (ap (λ r. items true (bytes ++ r)) (none refl) ∙ ap (items true) (append-nil bytes)))
 front_items stay false bytes rest none = let m = stay false bytes rest in (m.0, sym m.1)
 
@@ -91,24 +91,24 @@ whole_front (x ∷ xs) ys (c ∷ before) b e others h =
     there (inr h) first = h
 
 -- what the last answer was asked for is a call
-answered_at : (is : List Item) (rs : List Reply) (before : List Answer) (last : Answer) (c : Call) → answers is rs ≡ before ++ last ∷ [] → last.item.asked ≡ asked.Call c → Has (λ (d : Call). d ≡ c) (calls is)
+answered_at : (is : List Request) (rs : List Reply) (before : List Answer) (last : Answer) (c : Call) → answers is rs ≡ before ++ last ∷ [] → last.item.asked ≡ asked.Call c → Has (λ (d : Call). d ≡ c) (calls is)
 unfolding answers
 answered_at [] rs before last c e a = let no : 0 ≡ length before + 1 = ap length e ∙ length-append before (last ∷ []) in absurd (omega (arith, no))
 answered_at (i ∷ is) rs [] last c e a =
     let same : i ≡ last.item = ap (λ (x : Answer). x.item) (first_is (record { item = i; reply = reply_for i.asked rs }) last (answers is (replies_after i.asked rs)) [] e) in
-    let asks : i.asked ≡ asked.Call c = ap (λ (j : Item). j.asked) same ∙ a in
+    let asks : i.asked ≡ asked.Call c = ap (λ (j : Request). j.asked) same ∙ a in
     subst (λ x. Has (λ (d : Call). d ≡ c) (option_to_list (call_in x) ++ calls is)) (sym asks) (inl refl)
 answered_at (i ∷ is) rs (b ∷ bs) last c e a =
     has_right (λ (d : Call). d ≡ c) (option_to_list (call_in i.asked)) (calls is)
     (answered_at is (replies_after i.asked rs) bs last c (rest_is (record { item = i; reply = reply_for i.asked rs }) b (answers is (replies_after i.asked rs)) (bs ++ last ∷ []) e) a)
 
 -- a session that goes on was asked for no bye
-quiet_none : (is : List Item) (rs : List Reply) → AllByRecursion IsQuiet (answers is rs) → ¬ Has (λ (d : Call). d ≡ call.Bye) (calls is)
+quiet_none : (is : List Request) (rs : List Reply) → AllByRecursion IsQuiet (answers is rs) → ¬ Has (λ (d : Call). d ≡ call.Bye) (calls is)
 unfolding answers
 quiet_none [] rs q h = h
 quiet_none (i ∷ is) rs q h = go (quiet_none is (replies_after i.asked rs) q.1) i.asked q.0.not_bye h
   where
-    go : (¬ Has (λ (d : Call). d ≡ call.Bye) (calls is)) → (a : Asked) → a ≢ asked.Call call.Bye → ¬ Has (λ (d : Call). d ≡ call.Bye) (option_to_list (call_in a) ++ calls is)
+    go : (¬ Has (λ (d : Call). d ≡ call.Bye) (calls is)) → (a : RequestKind) → a ≢ asked.Call call.Bye → ¬ Has (λ (d : Call). d ≡ call.Bye) (option_to_list (call_in a) ++ calls is)
     go rest (asked.Call d) n (inl here) = n (ap asked.Call here)
     go rest (asked.Call d) n (inr there) = rest there
     go rest asked.Syntax n there = rest there
@@ -175,13 +175,13 @@ abbrev AreLively : List Reply → Type 0
 AreLively rs = AllByRecursion IsLively rs
 
 -- all replies of a session that ended by its bye are of a machine that stands
-lively_replies : (is : List Item) (rs : List Reply) → length (calls is) ≡ length rs → AllByRecursion (λ (a : Answer). IsLively a.reply) (answers is rs) → AreLively rs
+lively_replies : (is : List Request) (rs : List Reply) → length (calls is) ≡ length rs → AllByRecursion (λ (a : Answer). IsLively a.reply) (answers is rs) → AreLively rs
 unfolding answers
 lively_replies [] [] e h = tt
 lively_replies [] (r ∷ rs) e h = absurd (omega (arith, e))
 lively_replies (i ∷ is) rs e h = go i.asked rs (λ ts t. lively_replies is ts t) e h
   where
-    go : (a : Asked) (rs : List Reply) → ((ts : List Reply) → length (calls is) ≡ length ts → AllByRecursion (λ (a : Answer). IsLively a.reply) (answers is ts) → AreLively ts)
+    go : (a : RequestKind) (rs : List Reply) → ((ts : List Reply) → length (calls is) ≡ length ts → AllByRecursion (λ (a : Answer). IsLively a.reply) (answers is ts) → AreLively ts)
         → length (option_to_list (call_in a) ++ calls is) ≡ length rs → IsLively (reply_for a rs) × AllByRecursion (λ (a : Answer). IsLively a.reply) (answers is (replies_after a rs)) → AreLively rs
     go (asked.Call c) [] rest e h = absurd (omega (arith, e))
     go (asked.Call c) (r ∷ rs) rest e h = (h.0, rest rs (omega (arith, e)) h.1)
@@ -286,7 +286,7 @@ module _ (rounds : ℕ) (few : rounds ≤ 10000) (start end old now : World) (p 
   Host by = Hosts start end (standing p) (standing q) by
 
   abbrev Told : How → Drilled → Type 0
-  Told by d = Tells by d rounds old now q.history
+  Told by d = TellsDrill by d rounds old now q.history
 
   never_eof : ¬ Host how.Eof
   never_eof h = no_eof rounds start end (standing p) h.mid stay read bye_last rest empty h.session
@@ -305,7 +305,7 @@ module _ (rounds : ℕ) (few : rounds ≤ 10000) (start end old now : World) (p 
     | inr spent ↦ left_none h.mid (shut_too_much h) spent.1
   ]
 
-  ends_of : (by : How) (d : Drilled) → Told by d → Host by → Ends d rounds old now p q
+  ends_of : (by : How) (d : Drilled) → Told by d → Host by → DrillEnds d rounds old now p q
   ends_of how.Bye drilled.Done t h = (record { start = start; end = end; rest = rest; hosts = h }, t)
   ends_of how.Bye drilled.Cut t h = (record { start = start; end = end; rest = rest; hosts = h }, t)
   ends_of how.NoMemory drilled.NoMemory t h = (inr (inl (record { start = start; end = end; rest = rest; hosts = h })), t)

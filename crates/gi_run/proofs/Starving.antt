@@ -10,7 +10,7 @@ use Rattle.gi_wire.specs.Text.{text}
 use Rattle.gi_net.specs.declared.how.How.{How}
 use Rattle.gi_net.specs.declared.how.How.TheVariants as how
 use Rattle.gi_net.specs.Answers.{answers}
-use Rattle.gi_net.specs.Served.{Ends}
+use Rattle.gi_net.specs.Served.{SessionEnds}
 use Rattle.gi_net.specs.Session.{HasCause, Session}
 use Rattle.gi_net.specs.Standing.{Standing}
 use Rattle.gi_net.specs.Told.{TellsNoMemory}
@@ -22,7 +22,7 @@ takes_none (Some xs) bytes e = rw e refl
 
 -- these bytes were written, and nothing else came of it
 silent : (v w : World) (s : Standing) (by : How) (bytes : List ℕ) (wrote : Wrote v w bytes)
-    → Ends by w.ended (length (ins (map Out wrote.pieces))) (s.left ≡ 0) [] (items w.ended (ins (map Out wrote.pieces))) bytes → HasCause by v w → Session v w s s by
+    → SessionEnds by w.ended (length (ins (map Out wrote.pieces))) (s.left ≡ 0) [] (items w.ended (ins (map Out wrote.pieces))) bytes → HasCause by v w → Session v w s s by
 unfolding answers
 silent v w s by bytes wrote ends cause = record {
   added = map Out wrote.pieces;
@@ -39,7 +39,7 @@ silent v w s by bytes wrote ends cause = record {
     rest = items w.ended (ins (map Out wrote.pieces));
     split = refl;
     calls_are = refl;
-    ends = subst (Ends by w.ended (length (ins (map Out wrote.pieces))) (s.left ≡ 0) [] (items w.ended (ins (map Out wrote.pieces)))) (sym (outs_of_outs wrote.pieces ∙ wrote.joined)) ends;
+    ends = subst (SessionEnds by w.ended (length (ins (map Out wrote.pieces))) (s.left ≡ 0) [] (items w.ended (ins (map Out wrote.pieces)))) (sym (outs_of_outs wrote.pieces ∙ wrote.joined)) ends;
   };
   prompt = prompt_outs [] [] [] wrote.pieces;
   pieces = short_outs wrote.pieces;

@@ -46,22 +46,22 @@ EndsEarly drilled.Done rounds before after = ⊥
 EndsEarly drilled.Cut rounds before after = ⊥
 
 -- How a drill ends: what was counted is printed where the session ended by its bye, and else nothing is.
-abbrev pub Ends : Drilled → ℕ → World → World → Seen → Seen → Type 0
-Ends drilled.Done rounds old new before after = Plays rounds before after how.Bye × Wrote old new (tally_text rounds (tally_of after.history))
-Ends drilled.Cut rounds old new before after = Plays rounds before after how.Bye × WroteCut old new (tally_text rounds (tally_of after.history))
-Ends by rounds old new before after = EndsEarly by rounds before after × (new ≡ old)
+abbrev pub DrillEnds : Drilled → ℕ → World → World → Seen → Seen → Type 0
+DrillEnds drilled.Done rounds old new before after = Plays rounds before after how.Bye × Wrote old new (tally_text rounds (tally_of after.history))
+DrillEnds drilled.Cut rounds old new before after = Plays rounds before after how.Bye × WroteCut old new (tally_text rounds (tally_of after.history))
+DrillEnds by rounds old new before after = EndsEarly by rounds before after × (new ≡ old)
 
 -- what is told of a session that ended so: what was counted where it ended by its bye, and else nothing
-abbrev pub Tells : How → Drilled → ℕ → World → World → List Entry → Type 0
-Tells how.Bye drilled.Done rounds old new es = Wrote old new (tally_text rounds (tally_of es))
-Tells how.Bye drilled.Cut rounds old new es = WroteCut old new (tally_text rounds (tally_of es))
-Tells how.NoMemory drilled.NoMemory rounds old new es = new ≡ old
-Tells how.ReadFault drilled.NoMemory rounds old new es = new ≡ old
-Tells how.WriteFault drilled.NoMemory rounds old new es = new ≡ old
-Tells how.TooMuch drilled.TooMuch rounds old new es = new ≡ old
-Tells how.Dead drilled.Dead rounds old new es = new ≡ old
-Tells how.Eof drilled.Dead rounds old new es = new ≡ old
-Tells by other rounds old new es = ⊥
+abbrev pub TellsDrill : How → Drilled → ℕ → World → World → List Entry → Type 0
+TellsDrill how.Bye drilled.Done rounds old new es = Wrote old new (tally_text rounds (tally_of es))
+TellsDrill how.Bye drilled.Cut rounds old new es = WroteCut old new (tally_text rounds (tally_of es))
+TellsDrill how.NoMemory drilled.NoMemory rounds old new es = new ≡ old
+TellsDrill how.ReadFault drilled.NoMemory rounds old new es = new ≡ old
+TellsDrill how.WriteFault drilled.NoMemory rounds old new es = new ≡ old
+TellsDrill how.TooMuch drilled.TooMuch rounds old new es = new ≡ old
+TellsDrill how.Dead drilled.Dead rounds old new es = new ≡ old
+TellsDrill how.Eof drilled.Dead rounds old new es = new ≡ old
+TellsDrill by other rounds old new es = ⊥
 
 -- the calls are those of the script, and then one shut where a call is left
 pub record IsPlayed (rounds : ℕ) (after : Seen) : Type 0 where
@@ -86,7 +86,7 @@ pub record IsUndisturbed (by : Drilled) (rounds : ℕ) (old new : World) (after 
 
 -- the script was served on the pass, and its answers counted
 pub record HasDrilled (by : Drilled) (rounds : ℕ) (old new : World) (before after : Seen) : Type 0 where
-  pub ends : Ends by rounds old new before after
+  pub ends : DrillEnds by rounds old new before after
   pub kept : IsHistory after.number after.history
   pub played : IsNew before → by ≡ drilled.Done → IsPlayed rounds after
   pub counted : IsNew before → by ≡ drilled.Done → AreCounted rounds after

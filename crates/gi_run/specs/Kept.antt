@@ -18,6 +18,6 @@ pub record IsHistory (number : ℕ) (es : List Entry) : Type 0 where
   pub own : All (IsOwn number) es
 
 -- the machine is in the state after it
-pub record IsKept (number : ℕ) (machine : State) (es : List Entry) : Type 0 where
+pub record IsRoomKept (number : ℕ) (machine : State) (es : List Entry) : Type 0 where
   pub history : IsHistory number es
   pub state : machine ≡ state_after es

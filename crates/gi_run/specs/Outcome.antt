@@ -1,7 +1,7 @@
 -- How a run of the program ends.
 use Rattle.std.specs.Prelude.{◌≡◌, ℕ, ◌⊎◌}
 use Rattle.gi_outside.specs.World.{World}
-use Rattle.gi_net.specs.Session.{IsWhole, Session, Undisturbed}
+use Rattle.gi_net.specs.Session.{IsComplete, Session, Undisturbed}
 use Rattle.gi_net.specs.Standing.{Standing}
 use Rattle.gi_net.specs.declared.how.How.{How}
 use Rattle.gi_net.specs.declared.how.How.TheVariants as how
@@ -31,7 +31,7 @@ pub record Hosts (old new : World) (before after : Standing) (by : How) : Type 0
   -- and where it wasn't before, only because the work for a wait found no memory
   pub lost : by ≡ how.Dead → ¬ HasEnded before.history → HasLostWork session.entries
   -- where nothing disturbs it, every item up to bye or the end is answered
-  pub whole : Undisturbed old new before mid by session → IsWhole old new before mid by session
+  pub whole : Undisturbed old new before mid by session → IsComplete old new before mid by session
 
 -- so it was, and the status tells how it ended
 pub record Runs (old new : World) (before after : Standing) (status : ℕ) : Type 0 where

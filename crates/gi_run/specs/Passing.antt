@@ -44,7 +44,7 @@ abbrev pub Refuses : Option Answered → ℕ → Type 0
 Refuses None left = 0 < left
 Refuses (Some answered.Spent) left = left ≡ 0
 Refuses (Some answered.NoMemory) left = 0 < left
-Refuses (Some answered.Entry) left = ⊥
+Refuses (Some answered.Recorded) left = ⊥
 
 -- a solve is running after the history
 abbrev pub IsLive : List Entry → Type 0

@@ -30,12 +30,12 @@ pub record HasNoRoom (old new : World) (before mid after : Standing) (by : How) 
   pub told : TellsNoMemory by old new
 
 -- an entry by which the machine is over: a shut, or one that was answered for want of memory
-abbrev pub Ends : Entry → Type 0
-Ends e = ((e.call ≡ call.Shut) × (e.reply ≡ reply.Done)) ⊎ (e.reply ≡ reply.NoMemory)
+abbrev pub EndsSolve : Entry → Type 0
+EndsSolve e = ((e.call ≡ call.Shut) × (e.reply ≡ reply.Done)) ⊎ (e.reply ≡ reply.NoMemory)
 
 -- some entry is such a one
 abbrev pub HasEnded : List Entry → Type 0
-HasEnded es = (e : Entry) × Contains es e × Ends e
+HasEnded es = (e : Entry) × Contains es e × EndsSolve e
 
 -- some work found no memory
 abbrev pub HasLostWork : List Entry → Type 0

@@ -11,13 +11,13 @@ use Rattle.gi_model.specs.declared.replies.Reply.TheVariants as reply
 use Rattle.gi_model.specs.declared.replies.Status.TheVariants as status
 use Rattle.gi_model.specs.declared.replies.Why.{Why}
 use Rattle.gi_net.specs.Entries.{is_work}
-use Rattle.gi_solving.specs.Done.{is_proper}
-use Rattle.gi_solving.specs.Laws.{has_failed, IsModelOf, IsSpent}
-use Rattle.gi_solving.specs.Solves.{Solves}
-use Rattle.gi_solving.specs.Steps.{HasSteps, Step, Solve}
-use Rattle.gi_solving.specs.Told.{nothing_told, told, told_step, told_steps}
-use Rattle.gi_solving.specs.declared.answer.Solved.{Solved}
-use Rattle.gi_solving.specs.declared.answer.Solved.TheVariants as solved
+use Rattle.gi_batch.specs.Done.{is_proper}
+use Rattle.gi_batch.specs.Laws.{has_failed, IsModelOf, IsSpent}
+use Rattle.gi_batch.specs.Solves.{Solves}
+use Rattle.gi_batch.specs.Steps.{HasSteps, BatchStep, Solve}
+use Rattle.gi_batch.specs.Told.{nothing_told, told, told_step, told_steps}
+use Rattle.gi_batch.specs.declared.answer.Solved.{Solved}
+use Rattle.gi_batch.specs.declared.answer.Solved.TheVariants as solved
 use Rattle.gi_run.specs.Kept.{IsHistory}
 use Rattle.gi_run.specs.Seen.{Seen, standing}
 use Rattle.gi_run.specs.Shutting.{HasLostWork}
@@ -58,10 +58,10 @@ pub record AreTrue (budget : ℕ) (es : List Entry) : Type 0 where
 -- the machine was told the steps up to a solve of the file that the bytes are, and nothing else: so the clauses so far are those
 -- that stand before that solve, and the assumptions are those of its ask
 pub record IsAsked (form : Form) (bytes : List ℕ) (before : List Entry) : Type 0 where
-  pub steps : List Step
+  pub steps : List BatchStep
   pub are : HasSteps form bytes steps
-  pub front : List Step
-  pub rest : List Step
+  pub front : List BatchStep
+  pub rest : List BatchStep
   pub split : steps ≡ front ++ Solve ∷ rest
   pub told_is : told before ≡ told_step (told_steps nothing_told front) Solve
 

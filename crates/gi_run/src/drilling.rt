@@ -1,6 +1,6 @@
 // The drill, served on a pass.
 ghost use Rattle.std.specs.Prelude.{◌≡◌, ◌≢◌, ◌≤◌};
-ghost use Rattle.gi_run.specs.Drilling.{HasDrilled, Tells, drilled_status};
+ghost use Rattle.gi_run.specs.Drilling.{HasDrilled, TellsDrill, drilled_status};
 
 use crate::pass::Pass;
 use crate::serving::host;
@@ -50,7 +50,7 @@ pub fn drill<L: Link>(alloc: Global, rounds: u32, pass: Pass, user: &mut L) -> (
 
 /// Prints what is counted of a session's answers where it ended by its `bye`.
 fn tell<L: Link>(how: How, rounds: u32, pass: &Pass, user: &mut L) -> Drilled
-    ensures { Tells how result rounds (L.state user.old) (L.state user.new) pass.now.history }
+    ensures { TellsDrill how result rounds (L.state user.old) (L.state user.new) pass.now.history }
 {
     match how {
         How::Bye => match print_tally(rounds, &pass.tally(), user) {

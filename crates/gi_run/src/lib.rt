@@ -7,10 +7,10 @@ mod pass;
 mod room;
 mod running;
 mod serving;
+mod session_pass;
 mod solving;
 mod starting;
 mod telling;
-mod visit;
 
 pub use pass::Pass;
 pub use room::Room;

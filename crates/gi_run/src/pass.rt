@@ -28,13 +28,13 @@ pub struct Pass {
 impl Model for Pass {
     ghost use Rattle.std.specs.Prelude.{◌-◌, length, vec_capacity};
     ghost use Rattle.gi_run.specs.Seen.{Seen, history_of};
-    ghost use Rattle.gi_run.specs.Kept.{IsKept};
+    ghost use Rattle.gi_run.specs.Kept.{IsRoomKept};
 
     ghost Value = { Seen };
 
     ghost view = { λ p. record { number = 0; history = history_of 0 p.entries.items; left = p.left; room = vec_capacity p.entries - length p.entries.items } };
 
-    ghost invariant = { λ p. IsKept 0 p.machine (history_of 0 p.entries.items) };
+    ghost invariant = { λ p. IsRoomKept 0 p.machine (history_of 0 p.entries.items) };
 }
 
 impl Pass {

@@ -14,4 +14,11 @@ impl Room {
     {
         Ok((Room {}, Pass::new(alloc)))
     }
+
+    /// The same, with a pass that has so many calls.
+    pub fn open_with(alloc: Global, calls: u64) -> Result<(Room, Pass), AllocError>
+        ensures { IsOkAnd result (λ opened. (opened.1.history ≡ []) × (opened.1.left ≡ calls)) }
+    {
+        Ok((Room {}, Pass::with_calls(alloc, calls)))
+    }
 }

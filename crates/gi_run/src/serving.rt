@@ -5,7 +5,7 @@ ghost use Rattle.gi_run.specs.Seen.{standing};
 ghost use Rattle.gi_run.specs.Outcome.{Hosts};
 
 use crate::pass::Pass;
-use crate::visit::Visit;
+use crate::session_pass::SessionPass;
 use gi_model::Reply;
 use gi_net::{How, serve_one};
 use gi_outside::{Link, Sent};
@@ -18,7 +18,7 @@ pub fn host<L: Link>(alloc: Global, pass: Pass, user: &mut L) -> (How, Pass)
     ensures hosts { Hosts (L.state user.old) (L.state user.new) (standing pass) (standing result.1) result.0 }
     ensures empty { (L.state user.new).ended ≡ true → IfSome (L.state user.new).rest (λ bytes. bytes ≡ []) }
 {
-    match Visit::begin(pass) {
+    match SessionPass::begin(pass) {
         Ok(mut visit) => {
             let how = serve_one(alloc, &mut visit, user);
             (how, visit.end())

@@ -3,14 +3,14 @@ ghost use Rattle.std.specs.Prelude.{◌≡◌, ◌≢◌, ◌≤◌};
 ghost use Rattle.gi_run.specs.Solving.{HasSolved, solved_refusal, solved_status};
 
 use crate::pass::Pass;
-use crate::visit::Visit;
-use gi_dimacs::CnfFault;
-use gi_files::Form;
-use gi_outside::Link;
-use gi_solving::{
+use crate::session_pass::SessionPass;
+use gi_batch::{
     Solved, asks_are_written, calls_are_answered, failures_are_true, models_are_true, solve,
     unknown_is_spent,
 };
+use gi_dimacs::CnfFault;
+use gi_files::Form;
+use gi_outside::Link;
 use std::alloc::Global;
 
 /// Reads a file, and solves it by calls on the pass.
@@ -29,7 +29,7 @@ pub fn solve_file<L: Link>(
     models_are_true();
     failures_are_true();
     unknown_is_spent();
-    match Visit::begin(pass) {
+    match SessionPass::begin(pass) {
         Ok(mut visit) => {
             let solved = solve(alloc, form, budget, &mut visit, user);
             (solved, visit.leave())

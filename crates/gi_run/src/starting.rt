@@ -35,10 +35,23 @@ pub fn start<L: Link>(
 {
     match words {
         Words::Taken(words) => begin(alloc, words.as_slice(), opened, user),
-        Words::NotText => end_with(2),
-        Words::NoMemory => end_with(3),
+        Words::NotText => end_without(opened, 2),
+        Words::NoMemory => end_without(opened, 3),
     }
 }
+
+// Ends with a status and without a refusal, and lets go of what was opened.
+fn end_without(opened: Result<(Room, Pass), AllocError>, status: u8) -> Ending
+    ensures { result ≡ record { status = status; refusal = None } }
+{
+    if let Ok((_, pass)) = opened {
+        let_go(pass);
+    }
+    end_with(status)
+}
+
+// Lets go of a pass. What a machine owns is let go of here alone, since the proof of that is long.
+fn let_go(_pass: Pass) {}
 
 // Ends with a status, and without a refusal.
 fn end_with(status: u8) -> Ending
@@ -61,7 +74,7 @@ fn begin<L: Link>(
         (option_map (λ room. room.1) (result_ok opened)) (L.state user.old) (L.state user.new) result.status result.refusal }
 {
     match page_asked(words) {
-        Some(page) => end_with(print_page(page, user)),
+        Some(page) => end_without(opened, print_page(page, user)),
         None => run_opened(alloc, words, opened, user),
     }
 }
@@ -79,6 +92,7 @@ fn run_opened<L: Link>(
     match opened {
         Ok((room, pass)) => {
             let outcome = run(alloc, words, &room, pass, user);
+            let_go(outcome.pass);
             Ending {
                 status: outcome.status,
                 refusal: outcome.refusal,

@@ -1,7 +1,7 @@
 use Rattle.std.proofs.Common.{[], refl, inl, sym, subst, arith}
 use Rattle.gi_net.specs.Standing.{Standing}
-use Rattle.gi_solving.specs.Solves.{Solves}
-use Rattle.gi_solving.specs.declared.answer.Solved.TheVariants as solved
+use Rattle.gi_batch.specs.Solves.{Solves}
+use Rattle.gi_batch.specs.declared.answer.Solved.TheVariants as solved
 use Rattle.gi_files.proofs.Giving.{gave_none}
 use Rattle.gi_run.specs.Seen.{standing}
 use Rattle.gi_run.proofs.Filing.{has_solved}

@@ -10,11 +10,11 @@ use std::marker::Model;
 
 /// A pass while a session is served on it. It always has memory for one entry more: that of the shut behind the session.
 #[derive(Drop)]
-pub struct Visit {
+pub struct SessionPass {
     pass: Pass,
 }
 
-impl Model for Visit {
+impl Model for SessionPass {
     ghost use Rattle.std.specs.Prelude.{◌≤◌};
     ghost use Rattle.gi_net.specs.Standing.{Standing};
     ghost use Rattle.gi_run.specs.Seen.{standing};
@@ -26,13 +26,13 @@ impl Model for Visit {
     ghost invariant = { λ v. 1 ≤ v.pass.room };
 }
 
-impl Visit {
+impl SessionPass {
     /// Begins a session on a pass. Where there is no memory for the entry of its shut, the pass comes back as it was.
-    pub fn begin(mut pass: Pass) -> Result<Visit, Pass>
+    pub fn begin(mut pass: Pass) -> Result<SessionPass, Pass>
         ensures begun { MatchResult result (λ visit. visit ≡ standing pass) (λ back. (standing back ≡ standing pass) × IsHistory back.number back.history) }
     {
         if pass.make_room(1) {
-            Ok(Visit { pass })
+            Ok(SessionPass { pass })
         } else {
             Err(pass)
         }
@@ -59,7 +59,7 @@ impl Visit {
     }
 }
 
-impl Caller for Visit {
+impl Caller for SessionPass {
     ghost use Rattle.gi_net.specs.Standing.{Standing};
     ghost use Rattle.gi_run.specs.Seen.{last_reply};
 
@@ -72,7 +72,7 @@ impl Caller for Visit {
             Some(answered) => answered,
             None => {
                 self.pass.make(call);
-                Answered::Entry
+                Answered::Recorded
             }
         }
     }
