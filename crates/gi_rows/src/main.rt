@@ -3,8 +3,11 @@
 
 mod playing;
 mod row;
+mod running;
 mod scripts;
 mod setting;
+mod user;
+mod words;
 
 use playing::print_row;
 use row::Row;

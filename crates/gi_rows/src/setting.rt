@@ -9,7 +9,7 @@ pub struct Setting {
     pub write: u64,
     /// `calls`: how many calls the pass has.
     pub calls: u64,
-    /// `sessions`: how many sessions were served on the pass before.
+    /// `sessions`: how many sessions were served in the room before, 0 or 1.
     pub sessions: u32,
     /// `long`: the length of a line that stands before the input; 0: there is none.
     pub long: u32,
@@ -37,7 +37,7 @@ impl Setting {
             "read" => self.read = u64::from(number),
             "write" => self.write = u64::from(number),
             "calls" => self.calls = u64::from(number),
-            "sessions" => self.sessions = number,
+            "sessions" if number <= 1 => self.sessions = number,
             "long" => self.long = number,
             _ => return None,
         }
