@@ -5,8 +5,6 @@ use std::io;
 /// Why there is no answer.
 #[derive(Debug, Drop)]
 pub enum Fault {
-    /// A number that is no literal.
-    NoLiteral,
     /// Memory was wanting.
     NoMemory,
     /// The solver gave another answer than was asked for.

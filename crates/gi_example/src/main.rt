@@ -43,7 +43,7 @@ fn plan(rt: &impl Print, planner: &mut Planner) -> Result<(), Fault> {
     start(planner)?;
     for steps in 0..MOST_STEPS {
         let goal = planner.guard()?;
-        planner.add_under(goal, &[at(steps, FLOORS)?])?;
+        planner.add_under(goal, &[at(steps, FLOORS)])?;
         match planner.solve_with(goal)? {
             Found::Model(model) => return print_plan(rt, steps, &model),
             Found::Failed(failed) => print_failed(rt, steps, &failed)?,
