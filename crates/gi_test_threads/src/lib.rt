@@ -1,0 +1,7 @@
+//! The tests of what threads share, by public calls alone.
+#![tactic(auto)]
+
+#[cfg(test)]
+mod room;
+#[cfg(test)]
+mod turn;
