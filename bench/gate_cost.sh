@@ -1,7 +1,7 @@
 #!/usr/bin/env bash
 # What the merge gate costs from nothing: runs it with nothing kept, and prints for each crate the processor seconds of its proof, of its tests' proofs and of its
-# edits, then the gate's whole processor time and how long it took. A process is looked at once a second, so up to a second of each
-# is missed. The gate's own output goes to the file that is named, or else to gate.log in a new folder. Linux alone.
+# edits, then what took longer than eight minutes, the gate's whole processor time and how long it took. A check is looked at once a second, so up to a second
+# of each is missed. The gate's own output goes to the file that is named, or else to gate.log in a new folder. Linux alone.
 #
 #   bench/gate_cost.sh [LOG]
 set -u
@@ -40,18 +40,25 @@ TIMEFORMAT='%R %U %S'
 { time rt ci --anew > "$log" 2>&1; } 2> "$work/time"
 status=$?
 kill "$looker"
+sed -n 's/^\([a-z0-9_]\+\).*:.*/\1/p' crates.txt > "$work/crates"
 awk -v ticks="$ticks" '
+  function cell(crate, kind) { return cost[crate, kind] ? sprintf("%d", cost[crate, kind] + 0.5) : "" }
+  FILENAME ~ /crates$/ { names[$1] = 1; next }
   FILENAME ~ /time$/ { real = $1; processor = $2 + $3; next }
   { last[$1] = $4; crate[$1] = $2; kind[$1] = $3 }
   END {
-    for (it in last) { cost[crate[it], kind[it]] += last[it] / ticks; names[crate[it]] = 1; sum[kind[it]] += last[it] / ticks }
+    for (it in last) { cost[crate[it], kind[it]] += last[it] / ticks; sum[kind[it]] += last[it] / ticks }
     print "| Crate | Proof | Tests | Edits |"
     print "|---|---|---|---|"
-    for (name in names) printf "| `%s` | %d | %d | %d |\n", name, cost[name, "proof"], cost[name, "tests"], cost[name, "edits"] | "sort"
+    for (name in names) printf "| `%s` | %s | %s | %s |\n", name, cell(name, "proof"), cell(name, "tests"), cell(name, "edits") | "sort"
     close("sort")
-    printf "| together | %d | %d | %d |\n", sum["proof"], sum["tests"], sum["edits"]
-    printf "\n%d processor minutes in all (user and system), in %d minutes\n", processor / 60, real / 60
-  }' "$work/time" "$work/looks"
+    printf "| together | %d | %d | %d |\n\n", sum["proof"], sum["tests"], sum["edits"]
+    for (name in names) {
+      if (cost[name, "proof"] > 480) printf "longer than eight minutes: the proof of %s\n", name
+      if (cost[name, "tests"] > 480) printf "longer than eight minutes: the tests of %s\n", name
+    }
+    printf "%d processor minutes in all (user and system), in %d minutes\n", processor / 60, real / 60
+  }' "$work/crates" "$work/time" "$work/looks"
 tail -n 1 "$log"
 echo "the gate's output: $log"
 exit "$status"
