@@ -15,8 +15,10 @@ pub record IsModel (p : Problem) (assumed : List ℕ) (values : List Bool) : Typ
   pub clauses : Satisfies values (in_force p assumed)
   pub lits : MakesTrue values assumed
 
--- some of the assumptions fail with the clauses in force under them, and unit closure over all that is known finds it
-pub record IsFailing (p : Problem) (assumed : List ℕ) (known : List (List ℕ)) (w : List ℕ) : Type 0 where
+-- some of the assumptions fail with the clauses in force under them, and unit closure over all that
+-- is known finds it
+pub record IsFailing (p : Problem) (assumed : List ℕ) (known : List (List ℕ)) (w : List ℕ) : Type
+    0 where
   pub some : IsSublist w assumed
   pub fails : Fail (in_force p w) w
   pub derived : Conflicts (full p ++ known) w

@@ -1,4 +1,5 @@
--- The law on guards: how the full clauses and the clauses in force differ, with no word on how a group is kept.
+-- The law on guards: how the full clauses and the clauses in force differ, with no word on how a
+-- group is kept.
 use Rattle.std.specs.Prelude.{◌≡◌, ℕ, ◌+◌, ◌*◌, ◌/◌, ◌≤◌, List, All, Contains, ◌⊎◌}
 use Rattle.gi_lit.specs.Literals.{IsSubsetOf}
 use Rattle.gi_lit.specs.Problem.{Problem, full, in_force, IsPlain}
@@ -29,10 +30,13 @@ pub record IsGuardedLit (p : Problem) (l : ℕ) : Type 0 where
   pub unfreed : ¬ Contains p.freed (l / 2)
   pub negative : Contains p.active (l / 2) → l ≡ 2 * (l / 2) + 1
 
--- clauses in force are of problem variables, and each is a full clause less negative literals of guards that are given; each other full clause
--- has the negative literal of an active guard that isn't given
+-- clauses in force are of problem variables, and each is a full clause less negative literals of
+-- guards that are given; each other full clause has the negative literal of an active guard that
+-- isn't given
 pub record RestsOnGuards (p : Problem) (given : List ℕ) : Type 0 where
   pub lits : All (All (IsGuardedLit p)) (full p)
   pub plain : All (IsPlain p) (in_force p given)
-  pub awake : (d : List ℕ) → Contains (in_force p given) d → (c : List ℕ) × Contains (full p) c × IsLess p given c d
-  pub others : (c : List ℕ) → Contains (full p) c → ((d : List ℕ) × Contains (in_force p given) d × IsLess p given c d) ⊎ IsAsleep p given c
+  pub awake : (d : List ℕ) → Contains (in_force p given) d
+      → (c : List ℕ) × Contains (full p) c × IsLess p given c d
+  pub others : (c : List ℕ) → Contains (full p) c
+      → ((d : List ℕ) × Contains (in_force p given) d × IsLess p given c d) ⊎ IsAsleep p given c

@@ -17,7 +17,8 @@ IsLiteral l = (2 ≤ l) × (l ≤ 2 * max_var + 1)
 unfoldable pub opposite : ℕ → ℕ
 opposite l = if l % 2 == 0 then l + 1 else l - 1
 
--- the literal that DIMACS writes as this number: v is the positive one of variable v, and -v the negative one
+-- the literal that DIMACS writes as this number: v is the positive one of variable v, and -v the
+-- negative one
 abbrev pub literal_of : ℤ → ℕ
 literal_of (pos v) = 2 * v
 literal_of (negsuc n) = 2 * suc n + 1

@@ -55,7 +55,8 @@ are_given given guards = list_all (λ g. has given (2 * g)) guards
 -- the clauses of the groups all of whose guards are given
 abbrev pub forced : List ℕ → List Group → List (List ℕ)
 forced given [] = []
-forced given (q ∷ qs) = if are_given given q.guards then q.clause ∷ forced given qs else forced given qs
+forced given (q ∷ qs) = if are_given given q.guards then q.clause ∷ forced given qs
+    else forced given qs
 
 -- the negative literals of guards, in order
 abbrev pub negatives : List ℕ → List ℕ
@@ -73,7 +74,8 @@ in_force p given = p.plain ++ forced given p.groups
 unfoldable pub full : Problem → List (List ℕ)
 full p = p.plain ++ map guarded p.groups
 
--- how many literals a group has as given: those of its clause, and one for each of its guards after the first
+-- how many literals a group has as given: those of its clause, and one for each of its guards after
+-- the first
 abbrev pub as_given : Group → ℕ
 as_given q = length q.clause + (length q.guards - 1)
 
@@ -105,7 +107,10 @@ with_clauses (c ∷ cs) p = with_clauses cs (with_clause c p)
 
 -- a clause more under guards
 abbrev pub with_group : List ℕ → List ℕ → Problem → Problem
-with_group gs c p = record p { vars = max p.vars (top c); groups = p.groups ++ record { guards = gs; clause = c } ∷ [] }
+with_group gs c p = record p {
+  vars = max p.vars (top c);
+  groups = p.groups ++ record { guards = gs; clause = c } ∷ [];
+}
 
 -- the guard that comes next, where these are freed: the one freed last, else a new variable
 abbrev pub guard_next : ℕ → List ℕ → ℕ
@@ -143,7 +148,11 @@ without x xs = filter (λ y. not (y == x)) xs
 
 -- an active guard freed: the groups that name it are gone
 abbrev pub without_guard : ℕ → Problem → Problem
-without_guard g p = record p { groups = without_groups g p.groups; active = without g p.active; freed = g ∷ p.freed }
+without_guard g p = record p {
+  groups = without_groups g p.groups;
+  active = without g p.active;
+  freed = g ∷ p.freed;
+}
 
 -- a clause of problem variables alone
 abbrev pub IsPlain : Problem → List ℕ → Type 0
@@ -153,7 +162,8 @@ IsPlain p c = All (λ l. IsProblemVar p (l / 2)) c
 abbrev pub IsGroup : Problem → Group → Type 0
 IsGroup p q = IsPlain p q.clause × All (Contains p.active) q.guards × (0 < length q.guards)
 
--- clauses have problem variables alone, groups have active guards, and the guards are different variables of the problem
+-- clauses have problem variables alone, groups have active guards, and the guards are different
+-- variables of the problem
 pub record IsWellFormed (p : Problem) : Type 0 where
   pub plain : All (IsPlain p) p.plain
   pub groups : All (IsGroup p) p.groups

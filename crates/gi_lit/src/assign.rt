@@ -6,8 +6,8 @@ use crate::var::Var;
 use std::alloc::{AllocError, Global};
 use std::marker::Model;
 
-/// An assignment: a truth value for each variable from 1 to `len`. Contracts see the list of the values,
-/// that of variable v at place v - 1.
+/// An assignment: a truth value for each variable from 1 to `len`. Contracts see the list of the
+/// values, that of variable v at place v - 1.
 #[derive(Debug, Drop)]
 pub struct Assign {
     values: Vec<bool>,

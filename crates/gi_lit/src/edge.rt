@@ -3,8 +3,8 @@ ghost use Rattle.gi_lit.specs.Literals.{opposite};
 
 use std::marker::Model;
 
-/// A literal of a circuit in the coding of AIGER: 0 is constant false and 1 constant true, 2k and 2k + 1
-/// are node k and its negation. Contracts see its code.
+/// A literal of a circuit in the coding of AIGER: 0 is constant false and 1 constant true, 2k and
+/// 2k + 1 are node k and its negation. Contracts see its code.
 #[derive(Clone, Copy, Debug, PartialEq, Eq, PartialOrd, Ord, Hash)]
 pub struct Edge {
     code: u32,

@@ -1,4 +1,5 @@
-//! Variables, literals, clauses and assignments, and the words in which the solver's contracts speak of them.
+//! Variables, literals, clauses and assignments, and the words in which the solver's contracts
+//! speak of them.
 #![tactic(auto)]
 
 mod assign;

@@ -6,8 +6,8 @@ use crate::var::Var;
 use std::alloc::{AllocError, Global};
 use std::marker::Model;
 
-/// A list that grows at its end. Contracts see the list of its items, of literals and edges that of their codes, of variables
-/// that of their numbers.
+/// A list that grows at its end. Contracts see the list of its items, of literals and edges that of
+/// their codes, of variables that of their numbers.
 #[derive(Debug, Drop)]
 pub struct List<T> {
     items: Vec<T>,

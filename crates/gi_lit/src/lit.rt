@@ -5,8 +5,8 @@ ghost use Rattle.gi_lit.specs.Literals.{max_var, IsVariable, IsLiteral, literal_
 use crate::var::{MAX_VAR, Var};
 use std::marker::Model;
 
-/// A literal: a variable or its negation. Contracts see its code: variable v has the positive literal 2v
-/// and the negative literal 2v + 1. There is no null literal.
+/// A literal: a variable or its negation. Contracts see its code: variable v has the positive
+/// literal 2v and the negative literal 2v + 1. There is no null literal.
 #[derive(Clone, Copy, Debug, PartialEq, Eq, PartialOrd, Ord, Hash)]
 pub struct Lit {
     code: u32,
@@ -26,8 +26,8 @@ impl Model for Lit {
 }
 
 impl Lit {
-    /// The literal that DIMACS writes as this number, v or -v. None exactly for 0 and where the magnitude
-    /// is above `MAX_VAR`.
+    /// The literal that DIMACS writes as this number, v or -v. None exactly for 0 and where the
+    /// magnitude is above `MAX_VAR`.
     pub fn from_dimacs(n: i32) -> Option<Lit>
         ensures { SomeIff result (IsVariable (nat_abs n)) (literal_of n) }
     {
