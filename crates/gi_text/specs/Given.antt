@@ -25,7 +25,8 @@ Gives NoMemory old new = HasLine old × (new ≡ old)
 
 -- the first n bytes as a line, with which the first `size` bytes go
 abbrev pub GivesFront : Next → ℕ → ℕ → Kept → Kept → Type 0
-GivesFront (Line line) n size old new = (n ≤ old.most) × (line ≡ take n old.left) × (new ≡ without_front size old)
+GivesFront (Line line) n size old new = (n ≤ old.most) × (line ≡ take n old.left)
+    × (new ≡ without_front size old)
 GivesFront Long n size old new = (old.most < n) × (new ≡ without_front size old)
 GivesFront More n size old new = ⊥
 GivesFront Done n size old new = ⊥
@@ -34,7 +35,8 @@ GivesFront NoMemory n size old new = (n ≤ old.most) × (new ≡ old)
 -- the first n bytes are a whole line
 pub record IsLine (n : ℕ) (held : Kept) : Type 0 where
   pub there : n ≤ length held.left
-  pub ends : ((n < length held.left) × (line_at held.left ≡ Some (take n held.left, drop (n + 1) held.left)))
+  pub ends : ((n < length held.left)
+      × (line_at held.left ≡ Some (take n held.left, drop (n + 1) held.left)))
       ⊎ ((line_at held.left ≡ None) × (held.ended ≡ true) × (0 < n) × (n ≡ length held.left))
 
 -- what stands in front: a line is left there, and one that is too long is let go
@@ -46,7 +48,9 @@ Looks look.Done old new = (old.left ≡ []) × (old.ended ≡ true) × (new ≡ 
 
 -- the next n bytes; memory may be wanting where they are there
 abbrev pub GivesRaw : Raw → ℕ → Kept → Kept → Type 0
-GivesRaw (raw.Bytes bytes) n old new = (n ≤ length old.left) × (bytes ≡ take n old.left) × (new ≡ without_front n old)
+GivesRaw (raw.Bytes bytes) n old new = (n ≤ length old.left) × (bytes ≡ take n old.left)
+    × (new ≡ without_front n old)
 GivesRaw raw.More n old new = (length old.left < n) × (old.ended ≡ false) × (new ≡ old)
-GivesRaw raw.Cut n old new = (length old.left < n) × (old.ended ≡ true) × (new ≡ record old { left = [] })
+GivesRaw raw.Cut n old new = (length old.left < n) × (old.ended ≡ true)
+    × (new ≡ record old { left = [] })
 GivesRaw raw.NoMemory n old new = (n ≤ length old.left) × (new ≡ old)

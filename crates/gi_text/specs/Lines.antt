@@ -24,7 +24,8 @@ from_lf (b ∷ bs) = if b == 10 then b ∷ bs else from_lf bs
 
 -- what is left once a piece was fed: it goes to the end, but for bytes of a line that is too long
 unfoldable pub fed : Kept → List ℕ → List ℕ
-fed old piece = if old.long && is_none (line_at old.left) then old.left ++ from_lf piece else old.left ++ piece
+fed old piece = if old.long && is_none (line_at old.left) then old.left ++ from_lf piece
+    else old.left ++ piece
 
 -- the first bytes are gone, and with them a line that was too long
 abbrev pub without_front : ℕ → Kept → Kept
@@ -32,7 +33,9 @@ without_front n old = record old { left = drop n old.left; long = false }
 
 -- a line is given: up to its LF, or up to the end of the input
 pub record GivesLine (line : List ℕ) (old new : Kept) : Type 0 where
-  pub line_is : (line_at old.left ≡ Some (line, new.left)) ⊎ ((line_at old.left ≡ None) × (old.ended ≡ true) × (0 < length line) × (line ≡ old.left) × (new.left ≡ []))
+  pub line_is : (line_at old.left ≡ Some (line, new.left))
+      ⊎ ((line_at old.left ≡ None) × (old.ended ≡ true) × (0 < length line) × (line ≡ old.left)
+      × (new.left ≡ []))
   pub ended : new.ended ≡ old.ended
   pub long : new.long ≡ false
   pub most : new.most ≡ old.most

@@ -13,7 +13,8 @@ word_of (b ∷ bs) = (b ∷ bs) ∷ []
 -- the words of what follows these bytes of a word
 unfoldable pub words_from : List ℕ → List ℕ → List (List ℕ)
 words_from begun [] = word_of begun
-words_from begun (b ∷ bs) = if is_white b then word_of begun ++ words_from [] bs else words_from (begun ++ b ∷ []) bs
+words_from begun (b ∷ bs) = if is_white b then word_of begun ++ words_from [] bs
+    else words_from (begun ++ b ∷ []) bs
 
 -- the words, in order
 abbrev pub words_of : List ℕ → List (List ℕ)

@@ -42,7 +42,8 @@ impl Digits {
     }
 }
 
-/// The number from 0 to 2^64 - 1 whose shortest decimal spelling `word` is. `None` exactly where it is that of none.
+/// The number from 0 to 2^64 - 1 whose shortest decimal spelling `word` is. `None` exactly where it
+/// is that of none.
 pub fn read_digits(word: &[u8]) -> Option<u64>
     ensures found { IfSome result (λ n. word.now ≡ decimal n) }
     ensures none { IfNone result ((n : ℕ) → n < 2 ^ 64 → word.now ≢ decimal n) }

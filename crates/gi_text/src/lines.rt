@@ -55,8 +55,9 @@ pub enum Raw {
     NoMemory,
 }
 
-/// The lines of an input that comes in pieces, each ended by LF or by the end of the input, and raw bytes between lines.
-/// Of a line of more bytes than the limit, those past the limit and one more are not kept.
+/// The lines of an input that comes in pieces, each ended by LF or by the end of the input, and raw
+/// bytes between lines. Of a line of more bytes than the limit, those past the limit and one more
+/// are not kept.
 #[derive(Drop)]
 pub struct Lines {
     alloc: Global,
@@ -199,8 +200,9 @@ impl Lines {
         }
     }
 
-    /// The next `n` bytes, which are no line. A line that is too long must not be under way: it is from a `next_line` that
-    /// answered `More` while more than the limit of its bytes were there, until `next_line` answers `Long` for it.
+    /// The next `n` bytes, which are no line. A line that is too long must not be under way: it is
+    /// from a `next_line` that answered `More` while more than the limit of its bytes were there,
+    /// until `next_line` answers `Long` for it.
     pub fn take_raw(&mut self, n: u32) -> Raw
         requires { self.old.long ≡ false }
         ensures raw { GivesRaw result n self.old self.new }
@@ -228,7 +230,9 @@ impl Lines {
     fn find_end(&mut self) -> Option<usize>
         ensures same { self.new ≡ self.old }
         ensures small { IfSome result (λ n. n + 1 < 2 ^ 64) }
-        ensures found { MatchOption result (line_at self.old.left ≡ None) (λ n. (n < length self.old.left) × (line_at self.old.left ≡ Some (take n self.old.left, drop (n + 1) self.old.left))) }
+        ensures found { MatchOption result (line_at self.old.left ≡ None)
+            (λ n. (n < length self.old.left)
+            × (line_at self.old.left ≡ Some (take n self.old.left, drop (n + 1) self.old.left))) }
     {
         match memchr(LF, skip(self.held.as_slice(), self.looked)) {
             Some(i) => {
@@ -275,7 +279,10 @@ impl Lines {
     // Keeps of a line that is under way no more than shows that it is too long.
     fn wait(&mut self)
         requires { line_at self.old.left ≡ None }
-        ensures { self.new ≡ record self.old { left = take (self.old.most + 1) self.old.left; long = nat_lt self.old.most (length self.old.left) } }
+        ensures { self.new ≡ record self.old {
+          left = take (self.old.most + 1) self.old.left;
+          long = nat_lt self.old.most (length self.old.left);
+        } }
     {
         let most = self.most as usize;
         let long = self.held.len() > most;

@@ -17,8 +17,8 @@ pub enum Number {
 // Stands for every magnitude that is too big.
 const TOO_BIG: u64 = 4_294_967_296;
 
-/// Reads a word as a number: one or more decimal digits, which may begin with zeros, behind a `-` for a negative one.
-/// There is no negative zero, and no `+`.
+/// Reads a word as a number: one or more decimal digits, which may begin with zeros, behind a `-`
+/// for a negative one. There is no negative zero, and no `+`.
 pub fn read_number(word: &[u8]) -> Number
     ensures { Reads result (number_of word.now) }
 {
@@ -72,7 +72,8 @@ fn negative(digits: &[u8]) -> Number
 
 // What the digits are, up to `TOO_BIG`.
 fn read_magnitude(digits: &[u8]) -> Option<u64>
-    ensures { MatchOption result (magnitude digits.now ≡ None) (λ m. (n : ℕ) × (magnitude digits.now ≡ Some n) × (m ≡ min n 4294967296)) }
+    ensures { MatchOption result (magnitude digits.now ≡ None)
+        (λ m. (n : ℕ) × (magnitude digits.now ≡ Some n) × (m ≡ min n 4294967296)) }
 {
     if digits.is_empty() {
         return None;

@@ -4,7 +4,8 @@ ghost use Rattle.std.specs.Prelude.{◌≡◌, ◌==◌, ◌++◌, ◌≤◌, []
 use std::alloc::{AllocError, Global};
 use std::marker::Model;
 
-/// A row of bytes. What left at its front still takes room until it is more than half of what is held.
+/// A row of bytes. What left at its front still takes room until it is more than half of what is
+/// held.
 #[derive(Drop)]
 pub struct Queue {
     held: Vec<u8>,
@@ -49,7 +50,8 @@ impl Queue {
         &self.held[self.front..]
     }
 
-    /// Adds bytes at the end. Each byte that left is paid for once, when the others move to the front.
+    /// Adds bytes at the end. Each byte that left is paid for once, when the others move to the
+    /// front.
     pub fn extend(&mut self, piece: &[u8]) -> Result<(), AllocError>
         ensures ok { OnOk result (self.new ≡ self.old ++ piece.now) }
         ensures err { OnErr result (self.new ≡ self.old) }

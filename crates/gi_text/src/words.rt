@@ -52,7 +52,8 @@ impl<'a> Iterator for Words<'a> {
 
 // The first word, and what stands behind it.
 fn split_word(line: &[u8]) -> Option<(&[u8], &[u8])>
-    ensures { MatchOption result (words_of line.now ≡ []) (λ p. words_of line.now ≡ p.0.now ∷ words_of p.1.now) }
+    ensures { MatchOption result (words_of line.now ≡ [])
+        (λ p. words_of line.now ≡ p.0.now ∷ words_of p.1.now) }
 {
     let line = skip(line, run_len(line, true));
     let n = run_len(line, false);
