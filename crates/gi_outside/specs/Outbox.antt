@@ -15,4 +15,5 @@ pub record WroteAllBut (old new : World) (waits text : List ℕ) : Type 0 where
 
 -- since the start the text was put into the buffer
 abbrev pub Stands : World → World → Waiting → List ℕ → Type 0
-Stands start now waiting text = MatchBool waiting.broken (WroteCut start now text) (WroteAllBut start now waiting.bytes text)
+Stands start now waiting text =
+    MatchBool waiting.broken (WroteCut start now text) (WroteAllBut start now waiting.bytes text)

@@ -23,18 +23,27 @@ abbrev pub read_size : List ℕ → ℕ → ℕ → ℕ
 read_size [] room left = min room left
 read_size (most ∷ cuts) room left = min (min room left) most
 
--- a read gives bytes, or End where none is left, or fails where its number is bad or, with bytes left, for want of memory
+-- a read gives bytes, or End where none is left, or fails where its number is bad or, with bytes
+-- left, for want of memory
 abbrev pub FollowsRead : Got → ℕ → ℕ → Script → Script → Type 0
-FollowsRead (got.Bytes n) room left old new = (¬ Contains old.bad_reads (up old.reads)) × (0 < left) × (n ≡ read_size old.cuts room left) × (new ≡ record old { reads = up old.reads; cuts = drop 1 old.cuts })
-FollowsRead got.End room left old new = (¬ Contains old.bad_reads (up old.reads)) × (left ≡ 0) × (new ≡ record old { reads = up old.reads })
-FollowsRead got.Failed room left old new = (Contains old.bad_reads (up old.reads) × (new ≡ record old { reads = up old.reads }))
-    ⊎ ((¬ Contains old.bad_reads (up old.reads)) × (0 < left) × (new ≡ record old { reads = up old.reads; starved = up old.starved }))
+FollowsRead (got.Bytes n) room left old new = (¬ Contains old.bad_reads (up old.reads)) × (0 < left)
+    × (n ≡ read_size old.cuts room left)
+    × (new ≡ record old { reads = up old.reads; cuts = drop 1 old.cuts })
+FollowsRead got.End room left old new = (¬ Contains old.bad_reads (up old.reads)) × (left ≡ 0)
+    × (new ≡ record old { reads = up old.reads })
+FollowsRead got.Failed room left old new =
+    (Contains old.bad_reads (up old.reads) × (new ≡ record old { reads = up old.reads }))
+    ⊎ ((¬ Contains old.bad_reads (up old.reads)) × (0 < left)
+    × (new ≡ record old { reads = up old.reads; starved = up old.starved }))
 
 -- a write takes the whole piece, or fails where its number is bad or for want of memory
 abbrev pub FollowsWrite : Put → ℕ → Script → Script → Type 0
-FollowsWrite (put.Took n) size old new = (¬ Contains old.bad_writes (up old.writes)) × (n ≡ size) × (new ≡ record old { writes = up old.writes })
-FollowsWrite put.Failed size old new = (Contains old.bad_writes (up old.writes) × (new ≡ record old { writes = up old.writes }))
-    ⊎ ((¬ Contains old.bad_writes (up old.writes)) × (new ≡ record old { writes = up old.writes; starved = up old.starved }))
+FollowsWrite (put.Took n) size old new = (¬ Contains old.bad_writes (up old.writes)) × (n ≡ size)
+    × (new ≡ record old { writes = up old.writes })
+FollowsWrite put.Failed size old new =
+    (Contains old.bad_writes (up old.writes) × (new ≡ record old { writes = up old.writes }))
+    ⊎ ((¬ Contains old.bad_writes (up old.writes))
+    × (new ≡ record old { writes = up old.writes; starved = up old.starved }))
 
 -- a count of failed reads, after a read
 abbrev pub reads_failed : Got → ℕ → ℕ

@@ -4,4 +4,10 @@ use Rattle.gi_outside.specs.World.{World}
 use Rattle.gi_outside.specs.declared.standard.StdLink.{StdLink}
 
 abbrev pub standard_state : StdLink → World
-standard_state l = record { tape = None; rest = None; failed_reads = l.failed_reads; failed_writes = l.failed_writes; ended = l.ended }
+standard_state l = record {
+  tape = None;
+  rest = None;
+  failed_reads = l.failed_reads;
+  failed_writes = l.failed_writes;
+  ended = l.ended;
+}

@@ -1,4 +1,5 @@
-//! What the service sees of the world: a peer that gives bytes and takes bytes, in memory or over standard input and output.
+//! What the service sees of the world: a peer that gives bytes and takes bytes, in memory or over
+//! standard input and output.
 #![tactic(auto)]
 
 mod link;

@@ -63,8 +63,9 @@ impl Put {
 
 /// A peer that gives bytes and takes bytes.
 ///
-/// Its tape of pieces and the bytes still to come may be told or not. Failed reads and failed writes are counted, and
-/// neither count ever falls. Whether the last read answered `End` is always told.
+/// Its tape of pieces and the bytes still to come may be told or not. Failed reads and failed
+/// writes are counted, and neither count ever falls. Whether the last read answered `End` is always
+/// told.
 pub trait Link {
     /// What is known of the link.
     ghost state: { Self → World };
@@ -73,29 +74,35 @@ pub trait Link {
     fn read(&mut self, into: &mut [u8]) -> Got
         requires { 0 < length into.old }
         ensures fits { ReadFits result (length into.old) }
-        ensures tape { Adds (state self.old).tape (state self.new).tape (pieces_read result into.new) }
-        ensures rest { Takes (state self.old).rest (state self.new).rest (bytes_read result into.new) }
+        ensures tape { Adds (state self.old).tape (state self.new).tape
+            (pieces_read result into.new) }
+        ensures rest { Takes (state self.old).rest (state self.new).rest
+            (bytes_read result into.new) }
         ensures empty { result ≡ Got.End → IfSome (state self.new).rest (λ bytes. bytes ≡ []) }
         ensures ended { (state self.new).ended ≡ is_end result }
 
         // A read counts failed reads alone, and fails only where that count rose.
         ensures count { (state self.old).failed_reads ≤ (state self.new).failed_reads }
-        ensures cause { result ≡ Got.Failed → Rose (state self.old).failed_reads (state self.new).failed_reads }
+        ensures cause { result ≡ Got.Failed
+            → Rose (state self.old).failed_reads (state self.new).failed_reads }
         ensures other { (state self.new).failed_writes ≡ (state self.old).failed_writes };
 
     /// Writes at least one byte from the front of `piece`, which is not empty.
     fn write(&mut self, piece: &[u8]) -> Put
         requires { 0 < length piece.now }
         ensures fits { WriteFits result (length piece.now) }
-        ensures tape { Adds (state self.old).tape (state self.new).tape (pieces_put result piece.now) }
+        ensures tape { Adds (state self.old).tape (state self.new).tape
+            (pieces_put result piece.now) }
         ensures rest { (state self.new).rest ≡ (state self.old).rest }
         ensures ended { (state self.new).ended ≡ (state self.old).ended }
 
         // A write counts failed writes alone, and fails only where that count rose.
         ensures count { (state self.old).failed_writes ≤ (state self.new).failed_writes }
-        ensures cause { result ≡ Put.Failed → Rose (state self.old).failed_writes (state self.new).failed_writes }
+        ensures cause { result ≡ Put.Failed
+            → Rose (state self.old).failed_writes (state self.new).failed_writes }
         ensures other { (state self.new).failed_reads ≡ (state self.old).failed_reads };
 
     /// Nothing is left to come once a read has answered `End`.
-    ghost ended_is_empty: { (link : Self) → (state link).ended ≡ true → IfSome (state link).rest (λ bytes. bytes ≡ []) };
+    ghost ended_is_empty: { (link : Self) → (state link).ended ≡ true
+        → IfSome (state link).rest (λ bytes. bytes ≡ []) };
 }

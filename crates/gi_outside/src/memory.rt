@@ -9,9 +9,11 @@ use crate::{Got, Link, Piece, Put};
 use gi_text::{Bytes, skip};
 use std::alloc::{AllocError, Global};
 
-/// A link in memory, which tells its tape and the bytes still to come, and fails where it was told to.
+/// A link in memory, which tells its tape and the bytes still to come, and fails where it was told
+/// to.
 ///
-/// It also fails where there is no memory for its tape: that call moves no byte, and counts in `starved` too.
+/// It also fails where there is no memory for its tape: that call moves no byte, and counts in
+/// `starved` too.
 #[derive(Drop)]
 pub struct MemoryLink {
     alloc: Global,
@@ -38,9 +40,9 @@ pub struct MemoryLink {
 impl MemoryLink {
     ghost use Rattle.gi_outside.specs.MemoryState.{memory_script, memory_state, memory_tape};
 
-    /// A link that gives `input`. Its k-th successful read gives at most the k-th number of `cuts`, which are not 0, and
-    /// past these as much as fits. The reads whose numbers stand in `bad_reads` fail, and the writes in `bad_writes`, each
-    /// counted from 1. Takes no memory.
+    /// A link that gives `input`. Its k-th successful read gives at most the k-th number of `cuts`,
+    /// which are not 0, and past these as much as fits. The reads whose numbers stand in
+    /// `bad_reads` fail, and the writes in `bad_writes`, each counted from 1. Takes no memory.
     #[tactic(auto, using(crate::proofs::Tape::outs_nil))]
     pub fn new(
         alloc: Global,
@@ -50,8 +52,23 @@ impl MemoryLink {
         bad_writes: Vec<u64>,
     ) -> MemoryLink
         requires { All (λ c. 0 < c) cuts.items }
-        ensures state { memory_state result ≡ record { tape = Some []; rest = Some input; failed_reads = 0; failed_writes = 0; ended = false } }
-        ensures script { memory_script result ≡ record { reads = 0; writes = 0; cuts = cuts.items; bad_reads = bad_reads.items; bad_writes = bad_writes.items; starved = 0 } }
+        ensures state { memory_state result
+            ≡ record {
+              tape = Some [];
+              rest = Some input;
+              failed_reads = 0;
+              failed_writes = 0;
+              ended = false;
+            } }
+        ensures script { memory_script result
+            ≡ record {
+              reads = 0;
+              writes = 0;
+              cuts = cuts.items;
+              bad_reads = bad_reads.items;
+              bad_writes = bad_writes.items;
+              starved = 0;
+            } }
     {
         MemoryLink {
             alloc,
@@ -98,15 +115,23 @@ impl Link for MemoryLink {
     fn read(&mut self, into: &mut [u8]) -> Got
         requires { 0 < length into.old }
         ensures fits { ReadFits result (length into.old) }
-        ensures tape { Adds (memory_state self.old).tape (memory_state self.new).tape (pieces_read result into.new) }
-        ensures rest { Takes (memory_state self.old).rest (memory_state self.new).rest (bytes_read result into.new) }
-        ensures empty { result ≡ Got.End → IfSome (memory_state self.new).rest (λ bytes. bytes ≡ []) }
+        ensures tape { Adds (memory_state self.old).tape (memory_state self.new).tape
+            (pieces_read result into.new) }
+        ensures rest { Takes (memory_state self.old).rest (memory_state self.new).rest
+            (bytes_read result into.new) }
+        ensures empty { result ≡ Got.End
+            → IfSome (memory_state self.new).rest (λ bytes. bytes ≡ []) }
         ensures ended { (memory_state self.new).ended ≡ is_end result }
-        ensures count { (memory_state self.old).failed_reads ≤ (memory_state self.new).failed_reads }
-        ensures cause { result ≡ Got.Failed → Rose (memory_state self.old).failed_reads (memory_state self.new).failed_reads }
-        ensures other { (memory_state self.new).failed_writes ≡ (memory_state self.old).failed_writes }
-        ensures script { FollowsRead result (length into.old) (length (memory_rest self.old)) (memory_script self.old) (memory_script self.new) }
-        ensures faults { (memory_state self.new).failed_reads ≡ reads_failed result (memory_state self.old).failed_reads }
+        ensures count { (memory_state self.old).failed_reads
+            ≤ (memory_state self.new).failed_reads }
+        ensures cause { result ≡ Got.Failed
+            → Rose (memory_state self.old).failed_reads (memory_state self.new).failed_reads }
+        ensures other { (memory_state self.new).failed_writes
+            ≡ (memory_state self.old).failed_writes }
+        ensures script { FollowsRead result (length into.old) (length (memory_rest self.old))
+            (memory_script self.old) (memory_script self.new) }
+        ensures faults { (memory_state self.new).failed_reads
+            ≡ reads_failed result (memory_state self.old).failed_reads }
     {
         self.ended = false;
         self.reads = self.reads.saturating_add(1);
@@ -139,14 +164,20 @@ impl Link for MemoryLink {
     fn write(&mut self, piece: &[u8]) -> Put
         requires { 0 < length piece.now }
         ensures fits { WriteFits result (length piece.now) }
-        ensures tape { Adds (memory_state self.old).tape (memory_state self.new).tape (pieces_put result piece.now) }
+        ensures tape { Adds (memory_state self.old).tape (memory_state self.new).tape
+            (pieces_put result piece.now) }
         ensures rest { (memory_state self.new).rest ≡ (memory_state self.old).rest }
         ensures ended { (memory_state self.new).ended ≡ (memory_state self.old).ended }
-        ensures count { (memory_state self.old).failed_writes ≤ (memory_state self.new).failed_writes }
-        ensures cause { result ≡ Put.Failed → Rose (memory_state self.old).failed_writes (memory_state self.new).failed_writes }
-        ensures other { (memory_state self.new).failed_reads ≡ (memory_state self.old).failed_reads }
-        ensures script { FollowsWrite result (length piece.now) (memory_script self.old) (memory_script self.new) }
-        ensures faults { (memory_state self.new).failed_writes ≡ writes_failed result (memory_state self.old).failed_writes }
+        ensures count { (memory_state self.old).failed_writes
+            ≤ (memory_state self.new).failed_writes }
+        ensures cause { result ≡ Put.Failed
+            → Rose (memory_state self.old).failed_writes (memory_state self.new).failed_writes }
+        ensures other { (memory_state self.new).failed_reads
+            ≡ (memory_state self.old).failed_reads }
+        ensures script { FollowsWrite result (length piece.now) (memory_script self.old)
+            (memory_script self.new) }
+        ensures faults { (memory_state self.new).failed_writes
+            ≡ writes_failed result (memory_state self.old).failed_writes }
     {
         self.writes = self.writes.saturating_add(1);
         if self.bad_writes.contains(&self.writes) {

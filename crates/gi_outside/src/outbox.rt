@@ -11,8 +11,9 @@ use std::marker::Model;
 // The most bytes that wait.
 const ROOM: usize = 4096;
 
-/// A text that is gathered for a link and written in pieces of 4,096 bytes, the last one by `finish`: so a short text is one
-/// piece. It takes no memory. Once a write has failed, nothing more is written.
+/// A text that is gathered for a link and written in pieces of 4,096 bytes, the last one by
+/// `finish`: so a short text is one piece. It takes no memory. Once a write has failed, nothing
+/// more is written.
 #[derive(Drop)]
 pub struct Outbox {
     bytes: [u8; ROOM],
@@ -81,7 +82,8 @@ impl Outbox {
     }
 
     fn flush<L: Link>(&mut self, link: &mut L)
-        ensures stands { (start : World) (text : List ℕ) → Stands start (L.state link.old) self.old text
+        ensures stands { (start : World) (text : List ℕ)
+            → Stands start (L.state link.old) self.old text
             → Stands start (L.state link.new) self.new text }
         ensures empty { self.new.bytes ≡ [] }
     {

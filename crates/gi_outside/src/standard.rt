@@ -5,8 +5,9 @@ use crate::{Got, Link, Put};
 use std::io::{Read, Write};
 use std::rt::{Stdin, Stdout};
 
-/// A link that reads standard input and writes standard output. It tells no bytes. A write that takes nothing is a fault.
-/// The counts of faults stay at the last value of their type once they are there.
+/// A link that reads standard input and writes standard output. It tells no bytes. A write that
+/// takes nothing is a fault. The counts of faults stay at the last value of their type once they
+/// are there.
 #[derive(Drop)]
 pub struct StdLink {
     input: Stdin,
@@ -21,7 +22,14 @@ impl StdLink {
 
     /// The link, with no fault counted.
     pub fn new(rt: &HostRuntime) -> StdLink
-        ensures { standard_state result ≡ record { tape = None; rest = None; failed_reads = 0; failed_writes = 0; ended = false } }
+        ensures { standard_state result
+            ≡ record {
+              tape = None;
+              rest = None;
+              failed_reads = 0;
+              failed_writes = 0;
+              ended = false;
+            } }
     {
         StdLink {
             input: rt.stdin(),
