@@ -1,0 +1,13 @@
+pub mod DoorState
+pub mod DialState
+pub mod Fresh
+pub mod Door
+pub mod Local
+pub mod Dial
+pub mod DoorScript
+pub mod DialScript
+pub mod MemoryDoorState
+pub mod MemoryDialState
+pub mod GivesFresh
+pub mod TcpLinkState
+pub mod TcpState
