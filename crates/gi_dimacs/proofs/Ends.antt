@@ -1,5 +1,5 @@
 -- What a reader answers at the end of its input, and the laws of its answers.
-use Rattle.std.proofs.Common.{◌≡◌, ℕ, ◌≤◌, max, List, [], ◌∷◌, Result, Ok, Err, ◌⊎◌, inl, inr, sym, ◌∙◌, refl, ap, arith, ◌/◌}
+use Rattle.std.proofs.Common.{subst, ◌≡◌, ℕ, ◌≤◌, max, List, [], ◌∷◌, Result, Ok, Err, ◌⊎◌, inl, inr, sym, ◌∙◌, refl, ap, arith, ◌/◌}
 use Rattle.std.specs.List.{AllByRecursion}
 use Rattle.gi_dimacs.specs.declared.fault.CnfFault.{CnfFault}
 use Rattle.gi_dimacs.specs.declared.cnf.Cnf.{Cnf}
@@ -100,16 +100,6 @@ icnf_again v w good is =
         items_same : (cs ds : List Item) → Items cs ≡ Items ds → cs ≡ ds
         items_same cs ds e = cc
 
--- what a reader was told
-pub told_cnf : (bytes : List ℕ) (vars : ℕ) (content : Content) (clauses : List (List ℕ)) → content ≡ Clauses clauses → read_file formats.Cnf bytes ≡ Ok (record { vars = vars; content = content }) → IsCnf (record { vars = vars; clauses = clauses }) bytes
-told_cnf bytes vars content clauses is e = (is_file formats.Cnf bytes (cnf_file (record { vars = vars; clauses = clauses })) (e ∙ ap (λ (k : Content). Ok (record { vars = vars; content = k })) is)).stands
-
-pub told_icnf : (bytes : List ℕ) (vars : ℕ) (content : Content) (items : List Item) → content ≡ Items items → read_file formats.Icnf bytes ≡ Ok (record { vars = vars; content = content }) → IsIcnf (record { vars = vars; items = items }) bytes
-told_icnf bytes vars content items is e = (is_file formats.Icnf bytes (icnf_file (record { vars = vars; items = items })) (e ∙ ap (λ (k : Content). Ok (record { vars = vars; content = k })) is)).stands
-
--- a file of clauses has no items, and one of items no clauses
-pub no_items : (bytes : List ℕ) (vars : ℕ) (content : Content) (items : List Item) → content ≡ Items items → read_file formats.Cnf bytes ≡ Ok (record { vars = vars; content = content }) → ⊥
-no_items bytes vars content items is e = let no : formats.Icnf ≡ formats.Cnf = sym (ap format_of is) ∙ (is_file formats.Cnf bytes (record { vars = vars; content = content }) e).of_format in cc
-
-pub no_clauses : (bytes : List ℕ) (vars : ℕ) (content : Content) (clauses : List (List ℕ)) → content ≡ Clauses clauses → read_file formats.Icnf bytes ≡ Ok (record { vars = vars; content = content }) → ⊥
-no_clauses bytes vars content clauses is e = let no : formats.Cnf ≡ formats.Icnf = sym (ap format_of is) ∙ (is_file formats.Icnf bytes (record { vars = vars; content = content }) e).of_format in cc
+-- what a reader was told, as a value of its format
+pub told_value : {V : Type 0} (g : Format) (bytes : List ℕ) (file : V → File) (v : V) (told : File) → file v ≡ told → read_file g bytes ≡ Ok told → IsFile (file v) bytes
+told_value g bytes file v told is e = subst (λ f. IsFile f bytes) (sym is) (is_file g bytes told e).stands

@@ -22,6 +22,9 @@ Gives (Some c) read old new = (read ≡ Err c) × (new ≡ old)
 
 -- a word of an ask: a literal, the 0, or a bad word
 abbrev pub GivesAsk : Asking → Result ℤ CnfCode → Taken → Taken → Type 0
-GivesAsk Goes read old new = (z : ℤ) × (read ≡ Ok z) × (z ≢ pos 0) × (length old.begun < most_assumptions) × (new ≡ with_assumption old z)
+GivesAsk Goes read old new = (z : ℤ) × (read ≡ Ok z) × (z ≢ pos 0)
+    × (length old.begun < most_assumptions) × (new ≡ with_assumption old z)
 GivesAsk Ends read old new = (read ≡ Ok (pos 0)) × (new ≡ asked old)
-GivesAsk (Stops c) read old new = (new ≡ old) × ((read ≡ Err c) ⊎ ((z : ℤ) × (read ≡ Ok z) × (z ≢ pos 0) × (most_assumptions ≤ length old.begun) × (c ≡ Limit)))
+GivesAsk (Stops c) read old new = (new ≡ old)
+    × ((read ≡ Err c) ⊎ ((z : ℤ) × (read ≡ Ok z) × (z ≢ pos 0)
+    × (most_assumptions ≤ length old.begun) × (c ≡ Limit)))

@@ -5,14 +5,15 @@ use Rattle.gi_dimacs.specs.declared.content.Format.{Format}
 use Rattle.gi_dimacs.specs.declared.content.Format.TheVariants as formats
 use Rattle.gi_dimacs.specs.declared.reader.Outcome.{Outcome}
 use Rattle.gi_dimacs.specs.declared.reader.Outcome.TheVariants as outcomes
-use Rattle.gi_dimacs.specs.declared.readers.CnfRead.{CnfRead}
-use Rattle.gi_dimacs.specs.declared.readers.CnfRead.TheVariants as cnf
-use Rattle.gi_dimacs.specs.declared.readers.IcnfRead.{IcnfRead}
-use Rattle.gi_dimacs.specs.declared.readers.IcnfRead.TheVariants as icnf
+use Rattle.gi_dimacs.specs.declared.cnf.Cnf.{Cnf}
+use Rattle.gi_dimacs.specs.declared.cnf.Icnf.{Icnf}
+use Rattle.gi_dimacs.specs.declared.readers.FileRead.{FileRead}
+use Rattle.gi_dimacs.specs.declared.readers.FileRead.TheVariants as read
 use Rattle.gi_dimacs.specs.Lines.{lines_of, text_of}
 use Rattle.gi_dimacs.specs.Content.{File, format_of}
 use Rattle.gi_dimacs.specs.Files.{read_file}
-use Rattle.gi_dimacs.specs.Relation.{IsFile, IsCnf, IsIcnf}
+use Rattle.gi_dimacs.specs.Relation.{IsFile}
+use Rattle.gi_dimacs.specs.Texts.{cnf_file, icnf_file}
 
 -- what was read, unless memory ran out
 abbrev pub TellsCnf : Outcome → Result File CnfFault → Type 0
@@ -29,14 +30,17 @@ pub record IsFault (format : Format) (fault : CnfFault) (bytes : List ℕ) : Typ
   pub first : read_file format bytes ≡ Err fault
   pub none : HasNone format bytes
   -- a fault at a line of the input: no value has bytes that begin with the lines up to that one
-  pub stands : fault.line ≤ length (lines_of bytes) → (more : List ℕ) → HasNone format (text_of (take fault.line (lines_of bytes)) ++ more)
+  pub stands : fault.line ≤ length (lines_of bytes) → (more : List ℕ)
+      → HasNone format (text_of (take fault.line (lines_of bytes)) ++ more)
 
-abbrev pub AnswersCnf : CnfRead → List ℕ → Type 0
-AnswersCnf (cnf.Cnf v) bytes = IsCnf v bytes
-AnswersCnf (cnf.Fault fault) bytes = IsFault formats.Cnf fault bytes
-AnswersCnf cnf.NoMemory bytes = Unit {0}
+-- the answer is the value of the bytes, as what a file says, or their fault
+abbrev pub AnswersFile : {V : Type 0} → Format → (V → File) → FileRead V → List ℕ → Type 0
+AnswersFile format file (read.Value v) bytes = IsFile (file v) bytes
+AnswersFile format file (read.Fault fault) bytes = IsFault format fault bytes
+AnswersFile format file read.NoMemory bytes = Unit {0}
 
-abbrev pub AnswersIcnf : IcnfRead → List ℕ → Type 0
-AnswersIcnf (icnf.Icnf v) bytes = IsIcnf v bytes
-AnswersIcnf (icnf.Fault fault) bytes = IsFault formats.Icnf fault bytes
-AnswersIcnf icnf.NoMemory bytes = Unit {0}
+abbrev pub AnswersCnf : FileRead Cnf → List ℕ → Type 0
+AnswersCnf answer bytes = AnswersFile formats.Cnf cnf_file answer bytes
+
+abbrev pub AnswersIcnf : FileRead Icnf → List ℕ → Type 0
+AnswersIcnf answer bytes = AnswersFile formats.Icnf icnf_file answer bytes

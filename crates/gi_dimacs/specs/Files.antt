@@ -18,23 +18,53 @@ use Rattle.gi_dimacs.specs.Limits.{most_assumptions}
 
 -- nothing but a header's variables
 abbrev pub begin : Format → ℕ → Taken
-begin format vars = record { vars = vars; content = nothing format; ended = 0; begun = []; literals = 0 }
+begin format vars = record {
+  vars = vars;
+  content = nothing format;
+  ended = 0;
+  begun = [];
+  literals = 0;
+}
 
 -- the open clause ends
 abbrev pub closed : Taken → Taken
-closed t = record { vars = t.vars; content = with_item t.content (items.Clause t.begun); ended = t.ended + 1; begun = []; literals = t.literals }
+closed t = record {
+  vars = t.vars;
+  content = with_item t.content (items.Clause t.begun);
+  ended = t.ended + 1;
+  begun = [];
+  literals = t.literals;
+}
 
 -- the open ask ends
 abbrev pub asked : Taken → Taken
-asked t = record { vars = t.vars; content = with_item t.content (items.Ask t.begun); ended = t.ended; begun = []; literals = t.literals }
+asked t = record {
+  vars = t.vars;
+  content = with_item t.content (items.Ask t.begun);
+  ended = t.ended;
+  begun = [];
+  literals = t.literals;
+}
 
 -- a literal of the open clause
 abbrev pub with_literal : Taken → ℤ → Taken
-with_literal t z = record { vars = max t.vars (size_of z); content = t.content; ended = t.ended; begun = t.begun ++ literal_of z ∷ []; literals = t.literals + 1 }
+with_literal t z = record {
+  vars = max t.vars (size_of z);
+  content = t.content;
+  ended = t.ended;
+  begun = t.begun ++ literal_of z ∷ [];
+  literals = t.literals + 1;
+}
 
 -- a literal of the open ask, which isn't counted with those of clauses
 abbrev pub with_assumption : Taken → ℤ → Taken
-with_assumption t z = record { vars = max t.vars (size_of z); content = t.content; ended = t.ended; begun = t.begun ++ literal_of z ∷ []; literals = t.literals }
+with_assumption t z = record {
+  vars = max t.vars (size_of z);
+  content = t.content;
+  ended = t.ended;
+  begun = t.begun ++ literal_of z ∷ [];
+  literals = t.literals;
+}
 
 abbrev pub begins_number : List ℕ → Bool
 begins_number [] = false
@@ -51,8 +81,10 @@ number_in word = if begins_number word then within_variables (number_of word) el
 -- a number of a clause
 abbrev pub add_number : Taken → ℤ → Result Taken CnfCode
 add_number t (pos zero) = if nat_le 4194304 t.ended then Err Limit else Ok (closed t)
-add_number t (pos (suc n)) = if nat_le 67108864 t.literals then Err Limit else Ok (with_literal t (pos (suc n)))
-add_number t (negsuc n) = if nat_le 67108864 t.literals then Err Limit else Ok (with_literal t (negsuc n))
+add_number t (pos (suc n)) = if nat_le 67108864 t.literals then Err Limit
+    else Ok (with_literal t (pos (suc n)))
+add_number t (negsuc n) = if nat_le 67108864 t.literals then Err Limit
+    else Ok (with_literal t (negsuc n))
 
 abbrev pub then_number : Result ℤ CnfCode → (ℤ → Result Taken CnfCode) → Result Taken CnfCode
 then_number (Ok z) next = next z
@@ -77,11 +109,14 @@ ask_ends t [] = Ok (asked t)
 ask_ends t (w ∷ ws) = Err Word
 
 -- a number of an ask, and the words behind it
-abbrev pub ask_number : Taken → Result ℤ CnfCode → List (List ℕ) → (Taken → Result Taken CnfCode) → Result Taken CnfCode
+abbrev pub ask_number : Taken → Result ℤ CnfCode → List (List ℕ) → (Taken → Result Taken CnfCode)
+    → Result Taken CnfCode
 ask_number t (Err c) ws next = Err c
 ask_number t (Ok (pos zero)) ws next = ask_ends t ws
-ask_number t (Ok (pos (suc n))) ws next = if nat_le most_assumptions (length t.begun) then Err Limit else next (with_assumption t (pos (suc n)))
-ask_number t (Ok (negsuc n)) ws next = if nat_le most_assumptions (length t.begun) then Err Limit else next (with_assumption t (negsuc n))
+ask_number t (Ok (pos (suc n))) ws next = if nat_le most_assumptions (length t.begun) then Err Limit
+    else next (with_assumption t (pos (suc n)))
+ask_number t (Ok (negsuc n)) ws next = if nat_le most_assumptions (length t.begun) then Err Limit
+    else next (with_assumption t (negsuc n))
 
 -- the words of an ask behind its `a`
 unfoldable pub ask_words : Taken → List (List ℕ) → Result Taken CnfCode
@@ -117,7 +152,8 @@ ask_line t ws = if length t.begun == 0 then moves (ask_words t ws) else Stops Un
 
 abbrev pub body_words : Taken → List (List ℕ) → Move
 body_words t [] = Goes t
-body_words t (w ∷ ws) = if is_end w then Ends else if is_ask (format_of t.content) w then ask_line t ws else moves (add_words t (w ∷ ws))
+body_words t (w ∷ ws) = if is_end w then Ends else if is_ask (format_of t.content) w
+    then ask_line t ws else moves (add_words t (w ∷ ws))
 
 unfoldable pub body_line : Taken → List ℕ → Move
 body_line t line = if is_comment line then Goes t else body_words t (words_of line)
@@ -139,13 +175,17 @@ check_counts None c = Err Header
 
 -- the header: `p cnf V C`, or `p inccnf`
 abbrev pub header_words : Format → List (List ℕ) → Result ℕ CnfCode
-header_words formats.Cnf (p ∷ cnf ∷ v ∷ c ∷ []) = if bytes_eq p (112 ∷ []) && bytes_eq cnf (99 ∷ 110 ∷ 102 ∷ []) then check_counts (count_at v) (count_at c) else Err Header
-header_words formats.Icnf (p ∷ inccnf ∷ []) = if bytes_eq p (112 ∷ []) && bytes_eq inccnf (105 ∷ 110 ∷ 99 ∷ 99 ∷ 110 ∷ 102 ∷ []) then Ok 0 else Err Header
+header_words formats.Cnf (p ∷ cnf ∷ v ∷ c ∷ []) = if bytes_eq p (112 ∷ [])
+    && bytes_eq cnf (99 ∷ 110 ∷ 102 ∷ []) then check_counts (count_at v) (count_at c)
+    else Err Header
+header_words formats.Icnf (p ∷ inccnf ∷ []) = if bytes_eq p (112 ∷ [])
+    && bytes_eq inccnf (105 ∷ 110 ∷ 99 ∷ 99 ∷ 110 ∷ 102 ∷ []) then Ok 0 else Err Header
 header_words format ws = Err Header
 
 -- what stands at the end of a file
 abbrev pub whole : Taken → ℕ → Result File CnfFault
-whole t line = if length t.begun == 0 then Ok (record { vars = t.vars; content = t.content }) else Err (record { line = line; code = Unterminated })
+whole t line = if length t.begun == 0 then Ok (record { vars = t.vars; content = t.content })
+    else Err (record { line = line; code = Unterminated })
 
 abbrev pub after_move : Move → Taken → ℕ → (Taken → Result File CnfFault) → Result File CnfFault
 after_move (Goes u) t line next = next u
@@ -157,18 +197,23 @@ unfoldable pub read_body : ℕ → Taken → List (List ℕ) → Result File Cnf
 read_body line t [] = whole t line
 read_body line t (l ∷ ls) = after_move (body_line t l) t line (λ u. read_body (line + 1) u ls)
 
-abbrev pub begin_body : Format → Result ℕ CnfCode → ℕ → (Taken → Result File CnfFault) → Result File CnfFault
+abbrev pub begin_body : Format → Result ℕ CnfCode → ℕ → (Taken → Result File CnfFault)
+    → Result File CnfFault
 begin_body format (Ok v) line next = next (begin format v)
 begin_body format (Err c) line next = Err (record { line = line; code = c })
 
-abbrev pub head_words : Format → List (List ℕ) → ℕ → Result File CnfFault → (Taken → Result File CnfFault) → Result File CnfFault
+abbrev pub head_words : Format → List (List ℕ) → ℕ → Result File CnfFault
+    → (Taken → Result File CnfFault) → Result File CnfFault
 head_words format [] line silent next = silent
-head_words format (w ∷ ws) line silent next = begin_body format (header_words format (w ∷ ws)) line next
+head_words format (w ∷ ws) line silent next =
+    begin_body format (header_words format (w ∷ ws)) line next
 
 -- the lines up to the header, and then the body
 unfoldable pub read_lines : Format → ℕ → List (List ℕ) → Result File CnfFault
 read_lines format line [] = Err (record { line = line; code = Header })
-read_lines format line (l ∷ ls) = if is_comment l then read_lines format (line + 1) ls else head_words format (words_of l) line (read_lines format (line + 1) ls) (λ t. read_body (line + 1) t ls)
+read_lines format line (l ∷ ls) = if is_comment l then read_lines format (line + 1) ls
+    else head_words format (words_of l) line (read_lines format (line + 1) ls)
+    (λ t. read_body (line + 1) t ls)
 
 -- what a file says, or its first fault
 unfoldable pub read_file : Format → List ℕ → Result File CnfFault

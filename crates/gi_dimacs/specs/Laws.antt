@@ -31,7 +31,9 @@ OneAnswer = (format : Format) (bytes : List ℕ) → HasValue format bytes ⊎ H
 
 -- a fault at a line of the input is the fault, however the input goes on behind that line
 abbrev pub FaultsStand : Type 0
-FaultsStand = (format : Format) (bytes more : List ℕ) (f : CnfFault) → IsFault format f bytes → f.line ≤ length (lines_of bytes) → IsFault format f (text_of (take f.line (lines_of bytes)) ++ more)
+FaultsStand = (format : Format) (bytes more : List ℕ) (f : CnfFault) → IsFault format f bytes
+    → f.line ≤ length (lines_of bytes)
+    → IsFault format f (text_of (take f.line (lines_of bytes)) ++ more)
 
 -- the good values are those that some bytes have, and their text is such
 pub record GoodValues : Type 0 where

@@ -1,5 +1,5 @@
--- The machine over bytes that the code is. The formats are in `Files` and `Relation`, and the readers' contracts say
--- that this machine reads them.
+-- The machine over bytes that the code is. The formats are in `Files` and `Relation`, and the
+-- readers' contracts say that this machine reads them.
 use Rattle.std.specs.Prelude.{◌≡◌, ℕ, zero, suc, ◌+◌, ◌-◌, ◌^◌, ◌<◌, ◌⊎◌, min, nat_le, nat_lt, ℤ, pos, negsuc, Bool, true, false, ◌==◌, ◌&&◌, ◌||◌, not, List, [], ◌∷◌, ◌++◌, length, Option, Some, None, Result, Ok, Err, if◌then◌else◌}
 use Rattle.std.specs.Str.{bytes_eq}
 use Rattle.std.specs.List.{fold}
@@ -24,7 +24,14 @@ use Rattle.gi_lit.specs.Literals.{max_var}
 use Rattle.gi_dimacs.specs.Limits.{most_assumptions}
 
 abbrev pub start : Global → Format → Machine
-start alloc format = record { alloc = alloc; line = 1; phase = Before heads.Nothing; spot = Start; word = []; taken = begin format 0 }
+start alloc format = record {
+  alloc = alloc;
+  line = 1;
+  phase = Before heads.Nothing;
+  spot = Start;
+  word = [];
+  taken = begin format 0;
+}
 
 abbrev pub vars_head : Option ℕ → Head
 vars_head (Some v) = heads.Vars (min v (max_var + 1))
@@ -37,7 +44,8 @@ whole_head v None = heads.Bad
 -- the word behind `p`
 abbrev pub named_head : Format → List ℕ → Head
 named_head formats.Cnf w = if bytes_eq w (99 ∷ 110 ∷ 102 ∷ []) then heads.Cnf else heads.Bad
-named_head formats.Icnf w = if bytes_eq w (105 ∷ 110 ∷ 99 ∷ 99 ∷ 110 ∷ 102 ∷ []) then heads.Whole 0 true else heads.Bad
+named_head formats.Icnf w = if bytes_eq w (105 ∷ 110 ∷ 99 ∷ 99 ∷ 110 ∷ 102 ∷ [])
+    then heads.Whole 0 true else heads.Bad
 
 abbrev pub head_step : Format → Head → List ℕ → Head
 head_step format heads.Nothing w = if bytes_eq w (112 ∷ []) then heads.P else heads.Bad
@@ -75,17 +83,25 @@ after_add (Ok t) s = after_word s s.phase t
 after_add (Err c) s = after_word s (Failed c) s.taken
 
 unfoldable pub body_word : Machine → Machine
-body_word s = if is_first s.spot && is_end s.word then after_word s (end_phase s.taken.begun) s.taken
-    else if is_first s.spot && is_ask (format_of s.taken.content) s.word then after_word s (ask_phase s.taken.begun) s.taken else after_add (add_word s.taken s.word) s
+body_word s = if is_first s.spot && is_end s.word
+    then after_word s (end_phase s.taken.begun) s.taken
+    else if is_first s.spot && is_ask (format_of s.taken.content) s.word
+    then after_word s (ask_phase s.taken.begun) s.taken
+    else after_add (add_word s.taken s.word) s
 
 abbrev pub after_ask : Result ℤ CnfCode → Machine → Machine
 after_ask (Err c) s = after_word s (Failed c) s.taken
 after_ask (Ok (pos zero)) s = after_word s Asked (asked s.taken)
-after_ask (Ok (pos (suc n))) s = if nat_le most_assumptions (length s.taken.begun) then after_word s (Failed Limit) s.taken else after_word s Ask (with_assumption s.taken (pos (suc n)))
-after_ask (Ok (negsuc n)) s = if nat_le most_assumptions (length s.taken.begun) then after_word s (Failed Limit) s.taken else after_word s Ask (with_assumption s.taken (negsuc n))
+after_ask (Ok (pos (suc n))) s = if nat_le most_assumptions (length s.taken.begun)
+    then after_word s (Failed Limit) s.taken
+    else after_word s Ask (with_assumption s.taken (pos (suc n)))
+after_ask (Ok (negsuc n)) s = if nat_le most_assumptions (length s.taken.begun)
+    then after_word s (Failed Limit) s.taken
+    else after_word s Ask (with_assumption s.taken (negsuc n))
 
 abbrev pub word_by_phase : Phase → Machine → Machine
-word_by_phase (Before h) s = after_word s (Before (head_step (format_of s.taken.content) h s.word)) s.taken
+word_by_phase (Before h) s =
+    after_word s (Before (head_step (format_of s.taken.content) h s.word)) s.taken
 word_by_phase Body s = body_word s
 word_by_phase Ask s = after_ask (number_in s.word) s
 word_by_phase Asked s = after_word s (Failed Word) s.taken
@@ -99,7 +115,12 @@ abbrev pub new_line : Machine → Machine
 new_line s = record s { line = s.line + 1; spot = Start }
 
 abbrev pub body_begins : Machine → ℕ → Machine
-body_begins s v = record s { line = s.line + 1; spot = Start; phase = Body; taken = begin (format_of s.taken.content) v }
+body_begins s v = record s {
+  line = s.line + 1;
+  spot = Start;
+  phase = Body;
+  taken = begin (format_of s.taken.content) v;
+}
 
 abbrev pub after_head : Result ℕ CnfCode → Machine → Machine
 after_head (Ok v) s = body_begins s v
@@ -152,16 +173,19 @@ in_comment Later = false
 
 abbrev pub byte_in_line : Machine → ℕ → Machine
 byte_in_line s b = if in_comment s.spot then s else if is_white b then inside (word_ends s)
-    else if is_start s.spot && b == 99 then record s { spot = Comment } else inside (record s { word = s.word ++ b ∷ [] })
+    else if is_start s.spot && b == 99 then record s { spot = Comment }
+    else inside (record s { word = s.word ++ b ∷ [] })
 
 unfoldable pub take_byte : Machine → ℕ → Machine
-take_byte s b = if is_over s.phase then s else if b == 10 then line_ends (word_ends s) else byte_in_line s b
+take_byte s b = if is_over s.phase then s else if b == 10 then line_ends (word_ends s)
+    else byte_in_line s b
 
 -- the input has ended
 abbrev pub last_line : Machine → Machine
 last_line s = if is_start s.spot then s else line_ends (word_ends s)
 
--- at the end of the input memory may be wanting for a word that has not ended alone, and a number behind the last line that has one
+-- at the end of the input memory may be wanting for a word that has not ended alone, and a number
+-- behind the last line that has one
 abbrev pub LacksMemory : Machine → Type 0
 LacksMemory s = (0 < length s.word) ⊎ (s.line ≡ 2 ^ 64 - 1)
 

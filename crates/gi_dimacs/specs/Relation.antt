@@ -59,12 +59,14 @@ pub record SaysAsk (words : List (List ℕ)) (tokens : List Token) : Type 0 wher
 
 -- what a line of the body says
 abbrev pub LineSays : Format → List (List ℕ) → List Token → Type 0
-LineSays format words tokens = ((begins_ask format words ≡ false) × AreNumbers words tokens) ⊎ ((begins_ask format words ≡ true) × SaysAsk words tokens)
+LineSays format words tokens = ((begins_ask format words ≡ false) × AreNumbers words tokens)
+    ⊎ ((begins_ask format words ≡ true) × SaysAsk words tokens)
 
 -- what lines say, one after another
 abbrev pub LinesSay : Format → List (List ℕ) → List Token → Type 0
 LinesSay format [] tokens = tokens ≡ []
-LinesSay format (l ∷ ls) tokens = (first : List Token) × (rest : List Token) × (tokens ≡ first ++ rest) × LineSays format (line_words l) first × LinesSay format ls rest
+LinesSay format (l ∷ ls) tokens = (first : List Token) × (rest : List Token)
+    × (tokens ≡ first ++ rest) × LineSays format (line_words l) first × LinesSay format ls rest
 
 -- what items say: a clause may stand on several lines, an ask is one
 abbrev pub tokens_of : List Item → List Token
@@ -89,7 +91,8 @@ pub record IsFile (f : File) (bytes : List ℕ) : Type 0 where
   pub header : header_words (format_of f.content) (line_words head) ≡ Ok declared
   -- the body goes up to the end of the file, or to a line that begins with %
   pub going : AllByRecursion (λ l. begins_end (line_words l) ≡ false) body
-  pub ending : (tail ≡ []) ⊎ ((l : List ℕ) × (ls : List (List ℕ)) × (tail ≡ l ∷ ls) × (begins_end (line_words l) ≡ true))
+  pub ending : (tail ≡ []) ⊎ ((l : List ℕ) × (ls : List (List ℕ)) × (tail ≡ l ∷ ls)
+      × (begins_end (line_words l) ≡ true))
   -- its lines say the clauses and asks, in order
   pub spelled : LinesSay (format_of f.content) body (tokens_of (items_of f.content))
   pub vars : f.vars ≡ max declared (greatest_of (items_of f.content))

@@ -29,7 +29,8 @@ icnf_header = 112 ∷ 32 ∷ 105 ∷ 110 ∷ 99 ∷ 99 ∷ 110 ∷ 102 ∷ []
 
 -- a header with the true counts, and a line for each clause
 unfoldable pub cnf_text : Cnf → List ℕ
-cnf_text v = (cnf_header v.vars (length v.clauses) ++ 10 ∷ []) ++ flat_map (λ c. clause_text c ++ 10 ∷ []) v.clauses
+cnf_text v = (cnf_header v.vars (length v.clauses) ++ 10 ∷ [])
+    ++ flat_map (λ c. clause_text c ++ 10 ∷ []) v.clauses
 
 -- the header, and a line for each item
 unfoldable pub icnf_text : Icnf → List ℕ

@@ -4,7 +4,8 @@ use thiserror::Error;
 /// What is wrong with a line of a file.
 #[derive(Clone, Copy, Debug, PartialEq, Eq, Error)]
 pub enum CnfCode {
-    /// The first line that is neither blank nor a comment isn't the format's header, or there is none.
+    /// The first line that is neither blank nor a comment isn't the format's header, or there is
+    /// none.
     #[error("the header is wrong or missing")]
     Header,
     /// A word that has to be a number begins with neither a digit nor `-`.

@@ -70,7 +70,8 @@ fn read_name(format: Format, word: &[u8]) -> Head
 
 // A number from 0 up, to a cap.
 fn count_of(word: &[u8]) -> Option<u64>
-    ensures { MatchOption result (count_at word.now ≡ None) (λ m. (n : ℕ) × (count_at word.now ≡ Some n) × (m ≡ min n 4294967296)) }
+    ensures { MatchOption result (count_at word.now ≡ None)
+        (λ m. (n : ℕ) × (count_at word.now ≡ Some n) × (m ≡ min n 4294967296)) }
 {
     if begins_minus(word) {
         return None;

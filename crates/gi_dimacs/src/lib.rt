@@ -10,6 +10,7 @@ mod laws;
 mod machine;
 mod reader;
 mod readers;
+mod value;
 mod words;
 mod writing;
 
@@ -17,5 +18,6 @@ pub use cnf::{Cnf, Icnf};
 pub use fault::{CnfCode, CnfFault};
 pub use items::{Item, Items};
 pub use laws::{faults_stand, good_values, one_answer};
-pub use readers::{CnfRead, CnfReader, IcnfRead, IcnfReader};
+pub use readers::{CnfRead, CnfReader, FileRead, FileReader, IcnfRead, IcnfReader};
+pub use value::FileValue;
 pub use writing::{write_cnf, write_icnf};

@@ -49,9 +49,11 @@ impl Reader {
         }
     }
 
-    /// Takes the next piece, cut anywhere. After an error the reader is broken, whatever else it is fed.
+    /// Takes the next piece, cut anywhere. After an error the reader is broken, whatever else it is
+    /// fed.
     pub fn feed(&mut self, piece: &[u8]) -> Result<(), AllocError>
-        ensures ok { OnOk result ((format : Format) (bytes : List ℕ) → HasRead format self.old bytes → HasRead format self.new (bytes ++ piece.now)) }
+        ensures ok { OnOk result ((format : Format) (bytes : List ℕ) → HasRead format self.old bytes
+            → HasRead format self.new (bytes ++ piece.now)) }
         ensures sound { OnOk result (self.new.broken ≡ self.old.broken) }
         ensures err { OnErr result (self.new.broken ≡ true) }
         ensures some { OnErr result (0 < length piece.now) }
@@ -67,7 +69,8 @@ impl Reader {
 
     /// The input has ended.
     pub fn finish(self) -> Outcome
-        ensures read { (format : Format) (bytes : List ℕ) → HasRead format self bytes → TellsCnf result (read_file format bytes) }
+        ensures read { (format : Format) (bytes : List ℕ) → HasRead format self bytes
+            → TellsCnf result (read_file format bytes) }
         ensures broken { self.broken ≡ true → result ≡ outcomes.NoMemory }
         ensures memory { result ≡ outcomes.NoMemory → WantsMemory self }
     {

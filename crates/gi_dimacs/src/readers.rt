@@ -1,103 +1,45 @@
 // The readers of the two formats.
 ghost use Rattle.std.specs.Prelude.{◌≡◌, ◌<◌, ◌++◌, [], ℕ, List, length, OnOk, OnErr, true, false};
-ghost use Rattle.gi_dimacs.specs.declared.content.Format.TheVariants as formats;
-ghost use Rattle.gi_dimacs.specs.Answers.{AnswersCnf, AnswersIcnf};
-ghost use Rattle.gi_dimacs.specs.declared.readers.CnfRead.TheVariants as cnf_fails;
-ghost use Rattle.gi_dimacs.specs.declared.readers.IcnfRead.TheVariants as icnf_fails;
+ghost use Rattle.gi_dimacs.specs.Answers.{AnswersFile};
+ghost use Rattle.gi_dimacs.specs.declared.readers.FileRead.TheVariants as read;
 
 use crate::cnf::{Cnf, Icnf};
-use crate::content::{Content, Format};
 use crate::fault::CnfFault;
 use crate::reader::{Outcome, Reader};
+use crate::value::FileValue;
 use std::alloc::{AllocError, Global};
-use std::marker::Model;
+use std::marker::{Model, PhantomData};
 
-/// What the bytes of a CNF file are.
+/// What the bytes of a file are.
 #[derive(Drop)]
-pub enum CnfRead {
-    Cnf(Cnf),
+pub enum FileRead<V> {
+    /// What the file says.
+    Value(V),
     /// The first fault.
     Fault(CnfFault),
     NoMemory,
 }
 
+/// What the bytes of a CNF file are.
+pub type CnfRead = FileRead<Cnf>;
+
 /// What the bytes of an iCNF file are.
+pub type IcnfRead = FileRead<Icnf>;
+
+/// Reads a file of one format from pieces.
 #[derive(Drop)]
-pub enum IcnfRead {
-    Icnf(Icnf),
-    /// The first fault.
-    Fault(CnfFault),
-    NoMemory,
+pub struct FileReader<V> {
+    reader: Reader,
+    value: PhantomData<V>,
 }
 
 /// Reads DIMACS CNF from pieces.
-#[derive(Drop)]
-pub struct CnfReader {
-    reader: Reader,
-}
-
-impl Model for CnfReader {
-    ghost use Rattle.gi_dimacs.specs.Reader.{Reading};
-
-    ghost Value = { Reading };
-
-    ghost view = { λ r. r.reader };
-}
-
-impl CnfReader {
-    ghost use Rattle.gi_dimacs.specs.Reader.{HasRead, WantsMemory};
-
-    /// A reader that was fed nothing. Takes no memory.
-    pub fn new(alloc: Global) -> CnfReader
-        ensures nothing { HasRead formats.Cnf result [] }
-        ensures sound { result.broken ≡ false }
-    {
-        CnfReader {
-            reader: Reader::new(alloc, Format::Cnf),
-        }
-    }
-
-    /// Takes the next piece, cut anywhere. After an error the reader is broken, whatever else it is fed.
-    pub fn feed(&mut self, piece: &[u8]) -> Result<(), AllocError>
-        ensures ok { OnOk result ((bytes : List ℕ) → HasRead formats.Cnf self.old bytes → HasRead formats.Cnf self.new (bytes ++ piece.now)) }
-        ensures sound { OnOk result (self.new.broken ≡ self.old.broken) }
-        ensures err { OnErr result (self.new.broken ≡ true) }
-        ensures some { OnErr result (0 < length piece.now) }
-    {
-        self.reader.feed(piece)
-    }
-
-    /// The input has ended. The answer is the value of all bytes that were fed, or their first fault.
-    /// `NoMemory` comes where a `feed` answered an error; else only where the last word has not ended, and memory is
-    /// wanting for it, or where line 2^64 - 1 ends.
-    pub fn finish(self) -> CnfRead
-        ensures read { (bytes : List ℕ) → HasRead formats.Cnf self bytes → AnswersCnf result bytes }
-        ensures broken { self.broken ≡ true → result ≡ cnf_fails.NoMemory }
-        ensures memory { (bytes : List ℕ) → HasRead formats.Cnf self bytes → result ≡ cnf_fails.NoMemory → WantsMemory self }
-    {
-        match self.reader.finish() {
-            Outcome::File {
-                vars,
-                content: Content::Clauses(clauses),
-            } => CnfRead::Cnf(Cnf { vars, clauses }),
-            // Never: a reader of this format keeps clauses.
-            Outcome::File {
-                vars: _,
-                content: Content::Items(_),
-            } => CnfRead::NoMemory,
-            Outcome::Fault(fault) => CnfRead::Fault(fault),
-            Outcome::NoMemory => CnfRead::NoMemory,
-        }
-    }
-}
+pub type CnfReader = FileReader<Cnf>;
 
 /// Reads iCNF from pieces.
-#[derive(Drop)]
-pub struct IcnfReader {
-    reader: Reader,
-}
+pub type IcnfReader = FileReader<Icnf>;
 
-impl Model for IcnfReader {
+impl<V> Model for FileReader<V> {
     ghost use Rattle.gi_dimacs.specs.Reader.{Reading};
 
     ghost Value = { Reading };
@@ -105,22 +47,25 @@ impl Model for IcnfReader {
     ghost view = { λ r. r.reader };
 }
 
-impl IcnfReader {
+impl<V: FileValue> FileReader<V> {
     ghost use Rattle.gi_dimacs.specs.Reader.{HasRead, WantsMemory};
 
     /// A reader that was fed nothing. Takes no memory.
-    pub fn new(alloc: Global) -> IcnfReader
-        ensures nothing { HasRead formats.Icnf result [] }
+    pub fn new(alloc: Global) -> FileReader<V>
+        ensures nothing { HasRead V.format result [] }
         ensures sound { result.broken ≡ false }
     {
-        IcnfReader {
-            reader: Reader::new(alloc, Format::Icnf),
+        FileReader {
+            reader: Reader::new(alloc, V::format()),
+            value: PhantomData,
         }
     }
 
-    /// Takes the next piece, cut anywhere. After an error the reader is broken, whatever else it is fed.
+    /// Takes the next piece, cut anywhere. After an error the reader is broken, whatever else it is
+    /// fed.
     pub fn feed(&mut self, piece: &[u8]) -> Result<(), AllocError>
-        ensures ok { OnOk result ((bytes : List ℕ) → HasRead formats.Icnf self.old bytes → HasRead formats.Icnf self.new (bytes ++ piece.now)) }
+        ensures ok { OnOk result ((bytes : List ℕ) → HasRead V.format self.old bytes
+            → HasRead V.format self.new (bytes ++ piece.now)) }
         ensures sound { OnOk result (self.new.broken ≡ self.old.broken) }
         ensures err { OnErr result (self.new.broken ≡ true) }
         ensures some { OnErr result (0 < length piece.now) }
@@ -128,26 +73,25 @@ impl IcnfReader {
         self.reader.feed(piece)
     }
 
-    /// The input has ended. The answer is the value of all bytes that were fed, or their first fault.
+    /// The input has ended. The answer is the value of all bytes that were fed, or their first
+    /// fault.
     /// `NoMemory` comes where a `feed` answered an error; else only where the last word has not ended, and memory is
     /// wanting for it, or where line 2^64 - 1 ends.
-    pub fn finish(self) -> IcnfRead
-        ensures read { (bytes : List ℕ) → HasRead formats.Icnf self bytes → AnswersIcnf result bytes }
-        ensures broken { self.broken ≡ true → result ≡ icnf_fails.NoMemory }
-        ensures memory { (bytes : List ℕ) → HasRead formats.Icnf self bytes → result ≡ icnf_fails.NoMemory → WantsMemory self }
+    pub fn finish(self) -> FileRead<V>
+        ensures read { (bytes : List ℕ) → HasRead V.format self bytes
+            → AnswersFile V.format V.file result bytes }
+        ensures broken { self.broken ≡ true → result ≡ read.NoMemory }
+        ensures memory { (bytes : List ℕ) → HasRead V.format self bytes
+            → result ≡ read.NoMemory → WantsMemory self }
     {
         match self.reader.finish() {
-            Outcome::File {
-                vars,
-                content: Content::Items(items),
-            } => IcnfRead::Icnf(Icnf { vars, items }),
-            // Never: a reader of this format keeps items.
-            Outcome::File {
-                vars: _,
-                content: Content::Clauses(_),
-            } => IcnfRead::NoMemory,
-            Outcome::Fault(fault) => IcnfRead::Fault(fault),
-            Outcome::NoMemory => IcnfRead::NoMemory,
+            Outcome::File { vars, content } => match V::of(vars, content) {
+                Some(value) => FileRead::Value(value),
+                // Never: a reader of a format keeps what its files hold.
+                None => FileRead::NoMemory,
+            },
+            Outcome::Fault(fault) => FileRead::Fault(fault),
+            Outcome::NoMemory => FileRead::NoMemory,
         }
     }
 }

@@ -83,23 +83,25 @@ fn text_of_icnf(alloc: Global, icnf: &Icnf) -> Result<Bytes, AllocError>
     Ok(out)
 }
 
-/// The canonical text in DIMACS CNF: a header with the value's variables and the true count of clauses, then a
-/// line for each clause. A value that some bytes have is read back from it.
+/// The canonical text in DIMACS CNF: a header with the value's variables and the true count of
+/// clauses, then a line for each clause. A value that some bytes have is read back from it.
 pub fn write_cnf(alloc: Global, cnf: &Cnf) -> Result<Bytes, AllocError>
     ensures text { IfOk result (λ bytes. bytes ≡ cnf_text cnf.now) }
     ensures read { IfOk result (λ bytes. IsGood cnf.now → IsCnf cnf.now bytes) }
-    ensures again { IfOk result (λ bytes. IsGood cnf.now → (v : Cnf) → IsCnf v bytes → cnf_text v ≡ bytes) }
+    ensures again { IfOk result
+        (λ bytes. IsGood cnf.now → (v : Cnf) → IsCnf v bytes → cnf_text v ≡ bytes) }
 {
     let bytes = text_of_cnf(alloc, cnf)?;
     Ok(bytes)
 }
 
-/// The canonical text in iCNF: the header, then a line for each item in order. A value that some bytes have is
-/// read back from it.
+/// The canonical text in iCNF: the header, then a line for each item in order. A value that some
+/// bytes have is read back from it.
 pub fn write_icnf(alloc: Global, icnf: &Icnf) -> Result<Bytes, AllocError>
     ensures text { IfOk result (λ bytes. bytes ≡ icnf_text icnf.now) }
     ensures read { IfOk result (λ bytes. IsGoodIcnf icnf.now → IsIcnf icnf.now bytes) }
-    ensures again { IfOk result (λ bytes. IsGoodIcnf icnf.now → (v : Icnf) → IsIcnf v bytes → icnf_text v ≡ bytes) }
+    ensures again { IfOk result
+        (λ bytes. IsGoodIcnf icnf.now → (v : Icnf) → IsIcnf v bytes → icnf_text v ≡ bytes) }
 {
     let bytes = text_of_icnf(alloc, icnf)?;
     Ok(bytes)
