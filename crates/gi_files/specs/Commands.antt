@@ -39,15 +39,20 @@ format_of forms.Icnf = formats.Icnf
 
 -- the bytes have a fault, whose refusal is this text
 abbrev pub Refuses : Form → List ℕ → List ℕ → Type 0
-Refuses form bytes text = (fault : CnfFault) × IsFault (format_of form) fault bytes × (text ≡ refused_text fault)
+Refuses form bytes text = (fault : CnfFault) × IsFault (format_of form) fault bytes
+    × (text ≡ refused_text fault)
 
 -- How a command ends: the link as it was, as it was when the bytes had come, and as it is.
 abbrev pub CommandEnds : Done → Command → Form → World → World → World → List ℕ → Type 0
-CommandEnds done.Accepted command form old mid new bytes = (text : List ℕ) × IsAll old mid bytes × Accepts command form bytes text × Wrote mid new text
-CommandEnds (done.Refused fault) command form old mid new bytes = IsAll old mid bytes × IsFault (format_of form) fault bytes × Wrote mid new (refused_text fault)
-CommandEnds done.WriteFault command form old mid new bytes = (text : List ℕ) × IsAll old mid bytes × (Accepts command form bytes text ⊎ Refuses form bytes text) × WroteCut mid new text
+CommandEnds done.Accepted command form old mid new bytes = (text : List ℕ) × IsAll old mid bytes
+    × Accepts command form bytes text × Wrote mid new text
+CommandEnds (done.Refused fault) command form old mid new bytes = IsAll old mid bytes
+    × IsFault (format_of form) fault bytes × Wrote mid new (refused_text fault)
+CommandEnds done.WriteFault command form old mid new bytes = (text : List ℕ) × IsAll old mid bytes
+    × (Accepts command form bytes text ⊎ Refuses form bytes text) × WroteCut mid new text
 CommandEnds done.NoMemory command form old mid new bytes = new ≡ mid
-CommandEnds done.ReadFault command form old mid new bytes = Rose old.failed_reads mid.failed_reads × (new ≡ mid)
+CommandEnds done.ReadFault command form old mid new bytes = Rose old.failed_reads mid.failed_reads
+    × (new ≡ mid)
 CommandEnds done.TooMuch command form old mid new bytes = AreTooMany bytes × (new ≡ mid)
 
 -- a command over an input: bytes came, and then the output for them was written

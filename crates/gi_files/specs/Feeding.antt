@@ -16,7 +16,8 @@ IsFed fed.ReadFault format reader old new bytes = Rose old.failed_reads new.fail
 IsFed fed.TooMuch format reader old new bytes = AreTooMany bytes
 
 -- bytes came, and the answer is about them
-pub record Feeds (answer : Fed) (format : Format) (reader : Reading) (old new : World) : Type 0 where
+pub record Feeds (answer : Fed) (format : Format) (reader : Reading) (old new : World) : Type
+    0 where
   pub bytes : List ℕ
   pub gave : Gave old new bytes
   pub bounded : AreBounded bytes

@@ -6,12 +6,11 @@ use Rattle.gi_outside.specs.Told.{Adds, Takes}
 use Rattle.gi_outside.specs.World.{World}
 use Rattle.gi_outside.specs.declared.link.Piece.TheVariants.{In}
 use Rattle.gi_dimacs.specs.Answers.{IsFault}
-use Rattle.gi_dimacs.specs.Relation.{IsCnf, IsIcnf}
-use Rattle.gi_dimacs.specs.declared.content.Format.TheVariants as formats
-use Rattle.gi_files.specs.declared.reading.CnfInput.{CnfInput}
-use Rattle.gi_files.specs.declared.reading.CnfInput.TheVariants as cnf
-use Rattle.gi_files.specs.declared.reading.IcnfInput.{IcnfInput}
-use Rattle.gi_files.specs.declared.reading.IcnfInput.TheVariants as icnf
+use Rattle.gi_dimacs.specs.Content.{File}
+use Rattle.gi_dimacs.specs.Relation.{IsFile}
+use Rattle.gi_dimacs.specs.declared.content.Format.{Format}
+use Rattle.gi_files.specs.declared.reading.FileInput.{FileInput}
+use Rattle.gi_files.specs.declared.reading.FileInput.TheVariants as input
 
 -- a link gave these bytes, in some pieces, and nothing was written
 pub record Gave (old new : World) (bytes : List ℕ) : Type 0 where
@@ -36,29 +35,19 @@ abbrev pub AreBounded : List ℕ → Type 0
 AreBounded bytes = length bytes < 2 ^ 62 + 4096
 
 -- what the answer says of the bytes that came
-abbrev pub IsCnfInput : CnfInput → World → World → List ℕ → Type 0
-IsCnfInput (cnf.Cnf v) old new bytes = IsAll old new bytes × IsCnf v bytes
-IsCnfInput (cnf.Refused fault) old new bytes = IsAll old new bytes × IsFault formats.Cnf fault bytes
-IsCnfInput cnf.NoMemory old new bytes = Unit {0}
-IsCnfInput cnf.ReadFault old new bytes = Rose old.failed_reads new.failed_reads
-IsCnfInput cnf.TooMuch old new bytes = AreTooMany bytes
-
-abbrev pub IsIcnfInput : IcnfInput → World → World → List ℕ → Type 0
-IsIcnfInput (icnf.Icnf v) old new bytes = IsAll old new bytes × IsIcnf v bytes
-IsIcnfInput (icnf.Refused fault) old new bytes = IsAll old new bytes × IsFault formats.Icnf fault bytes
-IsIcnfInput icnf.NoMemory old new bytes = Unit {0}
-IsIcnfInput icnf.ReadFault old new bytes = Rose old.failed_reads new.failed_reads
-IsIcnfInput icnf.TooMuch old new bytes = AreTooMany bytes
+abbrev pub IsInput : {V : Type 0} → Format → (V → File) → FileInput V → World → World → List ℕ
+    → Type 0
+IsInput format file (input.Value v) old new bytes = IsAll old new bytes × IsFile (file v) bytes
+IsInput format file (input.Refused fault) old new bytes = IsAll old new bytes
+    × IsFault format fault bytes
+IsInput format file input.NoMemory old new bytes = Unit {0}
+IsInput format file input.ReadFault old new bytes = Rose old.failed_reads new.failed_reads
+IsInput format file input.TooMuch old new bytes = AreTooMany bytes
 
 -- bytes came, and the answer is about them
-pub record ReadsCnf (answer : CnfInput) (old new : World) : Type 0 where
+pub record Reads {V : Type 0} (format : Format) (file : V → File) (answer : FileInput V)
+    (old new : World) : Type 0 where
   pub bytes : List ℕ
   pub gave : Gave old new bytes
   pub bounded : AreBounded bytes
-  pub is : IsCnfInput answer old new bytes
-
-pub record ReadsIcnf (answer : IcnfInput) (old new : World) : Type 0 where
-  pub bytes : List ℕ
-  pub gave : Gave old new bytes
-  pub bounded : AreBounded bytes
-  pub is : IsIcnfInput answer old new bytes
+  pub is : IsInput format file answer old new bytes

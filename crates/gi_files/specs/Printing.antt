@@ -17,7 +17,8 @@ Prints done.TooMuch text mid new = ⊥
 
 -- the refusal was written, or was cut
 abbrev pub PrintsRefusal : Done → CnfFault → World → World → Type 0
-PrintsRefusal (done.Refused told) fault mid new = (told ≡ fault) × Wrote mid new (refused_text fault)
+PrintsRefusal (done.Refused told) fault mid new = (told ≡ fault)
+    × Wrote mid new (refused_text fault)
 PrintsRefusal done.WriteFault fault mid new = WroteCut mid new (refused_text fault)
 PrintsRefusal done.Accepted fault mid new = ⊥
 PrintsRefusal done.NoMemory fault mid new = ⊥

@@ -18,7 +18,8 @@ code_text Unterminated = codes "unterminated"
 
 -- a refused input: the line and the code of its fault
 unfoldable pub refused_text : CnfFault → List ℕ
-refused_text fault = (((codes "refused " ++ decimal fault.line) ++ codes " ") ++ code_text fault.code) ++ 10 ∷ []
+refused_text fault = (((codes "refused " ++ decimal fault.line) ++ codes " ")
+    ++ code_text fault.code) ++ 10 ∷ []
 
 abbrev pub is_clause : Item → Bool
 is_clause (Clause c) = true
@@ -38,4 +39,5 @@ cnf_counts v = counted (codes "cnf ") v.vars (length v.clauses) ++ 10 ∷ []
 
 -- the counts of an accepted iCNF file: variables, clauses and asks
 unfoldable pub icnf_counts : Icnf → List ℕ
-icnf_counts v = ((counted (codes "icnf ") v.vars (count_by is_clause v.items) ++ codes " ") ++ decimal (count_by is_ask v.items)) ++ 10 ∷ []
+icnf_counts v = ((counted (codes "icnf ") v.vars (count_by is_clause v.items) ++ codes " ")
+    ++ decimal (count_by is_ask v.items)) ++ 10 ∷ []

@@ -1,19 +1,15 @@
 // Commands over a whole input.
-ghost use Rattle.std.specs.Prelude.{List, ℕ};
-ghost use Rattle.gi_outside.specs.World.{World};
-ghost use Rattle.gi_outside.specs.Sent.{Sends};
-ghost use Rattle.gi_files.specs.Commands.{Does, cnf_output, icnf_output};
-ghost use Rattle.gi_files.specs.Printing.{Prints, PrintsRefusal};
+ghost use Rattle.gi_files.specs.Commands.{Does};
+ghost use Rattle.gi_files.specs.Printing.{PrintsRefusal};
 ghost use Rattle.gi_files.specs.declared.command.Command.TheVariants.{Check, Convert};
-ghost use Rattle.gi_files.specs.declared.form.Form.TheVariants as forms;
 
 use crate::command::Command;
-use crate::counts::{write_cnf_counts, write_icnf_counts};
 use crate::form::Form;
-use crate::reading::{CnfInput, IcnfInput, read_cnf, read_icnf};
+use crate::form_value::FormValue;
+use crate::reading::{FileInput, read_file};
 use crate::refusals::write_refused;
-use gi_dimacs::{Cnf, CnfFault, Icnf, write_cnf, write_icnf};
-use gi_outside::{Link, Sent, write_all};
+use gi_dimacs::{Cnf, CnfFault, Icnf};
+use gi_outside::{Link, Sent};
 use std::alloc::Global;
 
 /// How a command over an input ends.
@@ -33,17 +29,17 @@ pub enum Done {
     TooMuch,
 }
 
-/// Reads the input to its end and prints one line: the counts of its value, `cnf V C` or `icnf V C A` with variables,
-/// clauses and asks, or `refused LINE CODE` for its first fault. `ReadFault` and `WriteFault` come only where that count of
-/// the link rose, and `TooMuch` only after 2^62 bytes.
+/// Reads the input to its end and prints one line: the counts of its value, `cnf V C` or `icnf V C
+/// A` with variables, clauses and asks, or `refused LINE CODE` for its first fault. `ReadFault` and
+/// `WriteFault` come only where that count of the link rose, and `TooMuch` only after 2^62 bytes.
 pub fn check<L: Link>(alloc: Global, form: Form, user: &mut L) -> Done
     ensures { Does Check form result (L.state user.old) (L.state user.new) }
 {
     answer(alloc, Command::Check, form, user)
 }
 
-/// Reads the input to its end and prints the canonical text of its value, or `refused LINE CODE` for its first fault. The
-/// answers are those of `check`.
+/// Reads the input to its end and prints the canonical text of its value, or `refused LINE CODE`
+/// for its first fault. The answers are those of `check`.
 pub fn convert<L: Link>(alloc: Global, form: Form, user: &mut L) -> Done
     ensures { Does Convert form result (L.state user.old) (L.state user.new) }
 {
@@ -54,68 +50,21 @@ fn answer<L: Link>(alloc: Global, command: Command, form: Form, user: &mut L) ->
     ensures { Does command form result (L.state user.old) (L.state user.new) }
 {
     match form {
-        Form::Cnf => answer_cnf(alloc, command, user),
-        Form::Icnf => answer_icnf(alloc, command, user),
+        Form::Cnf => answer_as::<Cnf, L>(alloc, command, user),
+        Form::Icnf => answer_as::<Icnf, L>(alloc, command, user),
     }
 }
 
-fn answer_cnf<L: Link>(alloc: Global, command: Command, user: &mut L) -> Done
-    ensures { Does command forms.Cnf result (L.state user.old) (L.state user.new) }
+// The answer to an input that should say such a value.
+fn answer_as<V: FormValue, L: Link>(alloc: Global, command: Command, user: &mut L) -> Done
+    ensures { Does command V.form result (L.state user.old) (L.state user.new) }
 {
-    match read_cnf(alloc, user) {
-        CnfInput::Cnf(cnf) => print_cnf(alloc, command, &cnf, user),
-        CnfInput::Refused(fault) => refuse(fault, user),
-        CnfInput::NoMemory => Done::NoMemory,
-        CnfInput::ReadFault => Done::ReadFault,
-        CnfInput::TooMuch => Done::TooMuch,
-    }
-}
-
-fn answer_icnf<L: Link>(alloc: Global, command: Command, user: &mut L) -> Done
-    ensures { Does command forms.Icnf result (L.state user.old) (L.state user.new) }
-{
-    match read_icnf(alloc, user) {
-        IcnfInput::Icnf(icnf) => print_icnf(alloc, command, &icnf, user),
-        IcnfInput::Refused(fault) => refuse(fault, user),
-        IcnfInput::NoMemory => Done::NoMemory,
-        IcnfInput::ReadFault => Done::ReadFault,
-        IcnfInput::TooMuch => Done::TooMuch,
-    }
-}
-
-// Prints what the command prints of an accepted CNF file.
-fn print_cnf<L: Link>(alloc: Global, command: Command, cnf: &Cnf, user: &mut L) -> Done
-    ensures { Prints result (cnf_output command cnf.now) (L.state user.old) (L.state user.new) }
-{
-    match command {
-        Command::Check => printed(write_cnf_counts(cnf, user)),
-        Command::Convert => match write_cnf(alloc, cnf) {
-            Ok(text) => printed(write_all(text.as_slice(), user)),
-            Err(_) => Done::NoMemory,
-        },
-    }
-}
-
-// Prints what the command prints of an accepted iCNF file.
-fn print_icnf<L: Link>(alloc: Global, command: Command, icnf: &Icnf, user: &mut L) -> Done
-    ensures { Prints result (icnf_output command icnf.now) (L.state user.old) (L.state user.new) }
-{
-    match command {
-        Command::Check => printed(write_icnf_counts(icnf, user)),
-        Command::Convert => match write_icnf(alloc, icnf) {
-            Ok(text) => printed(write_all(text.as_slice(), user)),
-            Err(_) => Done::NoMemory,
-        },
-    }
-}
-
-// How a command ends whose output was sent so.
-fn printed(sent: Sent) -> Done
-    ensures { (old new : World) (text : List ℕ) → Sends sent old new text → Prints result text old new }
-{
-    match sent {
-        Sent::Done => Done::Accepted,
-        Sent::Failed => Done::WriteFault, // the output was cut
+    match read_file::<V, L>(alloc, user) {
+        FileInput::Value(value) => value.print(alloc, command, user),
+        FileInput::Refused(fault) => refuse(fault, user),
+        FileInput::NoMemory => Done::NoMemory,
+        FileInput::ReadFault => Done::ReadFault,
+        FileInput::TooMuch => Done::TooMuch,
     }
 }
 

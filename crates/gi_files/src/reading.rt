@@ -1,19 +1,19 @@
 // Whole inputs from a link.
 ghost use Rattle.std.specs.Prelude.{ℕ, List};
 ghost use Rattle.gi_outside.specs.World.{World};
-ghost use Rattle.gi_dimacs.specs.Answers.{AnswersCnf, AnswersIcnf};
-ghost use Rattle.gi_files.specs.Input.{IsAll, IsCnfInput, IsIcnfInput, ReadsCnf, ReadsIcnf};
+ghost use Rattle.gi_dimacs.specs.Answers.{AnswersFile};
+ghost use Rattle.gi_files.specs.Input.{IsAll, IsInput, Reads};
 
 use crate::feeding::{Fed, feed_all};
-use gi_dimacs::{Cnf, CnfFault, CnfRead, CnfReader, Icnf, IcnfRead, IcnfReader};
+use gi_dimacs::{CnfFault, FileRead, FileReader, FileValue};
 use gi_outside::Link;
 use std::alloc::Global;
 
-/// What an input that should be DIMACS CNF is.
+/// What an input is that should be a file of one format.
 #[derive(Drop)]
-pub enum CnfInput {
-    /// The value of all bytes.
-    Cnf(Cnf),
+pub enum FileInput<V> {
+    /// What all bytes say.
+    Value(V),
     /// The first fault of all bytes.
     Refused(CnfFault),
     /// Memory was wanting.
@@ -24,65 +24,29 @@ pub enum CnfInput {
     TooMuch,
 }
 
-/// What an input that should be iCNF is.
-#[derive(Drop)]
-pub enum IcnfInput {
-    /// The value of all bytes.
-    Icnf(Icnf),
-    /// The first fault of all bytes.
-    Refused(CnfFault),
-    /// Memory was wanting.
-    NoMemory,
-    /// A read failed.
-    ReadFault,
-    /// 2^62 bytes were taken, and no end came.
-    TooMuch,
-}
-
-/// Reads DIMACS CNF up to the end of the link's input, at most 4,096 bytes at a time, and writes nothing. The answer is the
-/// value of all bytes that came, or their first fault. `ReadFault` comes only where the link's count of failed reads rose,
-/// and `TooMuch` only after 2^62 bytes.
-pub fn read_cnf<L: Link>(alloc: Global, user: &mut L) -> CnfInput
-    ensures { ReadsCnf result (L.state user.old) (L.state user.new) }
+/// Reads a file up to the end of the link's input, at most 4,096 bytes at a time, and writes
+/// nothing. The answer is the value of all bytes that came, or their first fault. `ReadFault` comes
+/// only where the link's count of failed reads rose, and
+/// `TooMuch` only after 2^62 bytes.
+pub fn read_file<V: FileValue, L: Link>(alloc: Global, user: &mut L) -> FileInput<V>
+    ensures { Reads V.format V.file result (L.state user.old) (L.state user.new) }
 {
-    let mut reader = CnfReader::new(alloc);
+    let mut reader = FileReader::<V>::new(alloc);
     match feed_all(&mut reader, user) {
-        Fed::All => cnf_of(reader.finish()),
-        Fed::NoMemory => CnfInput::NoMemory,
-        Fed::ReadFault => CnfInput::ReadFault,
-        Fed::TooMuch => CnfInput::TooMuch,
+        Fed::All => input_of(reader.finish()),
+        Fed::NoMemory => FileInput::NoMemory,
+        Fed::ReadFault => FileInput::ReadFault,
+        Fed::TooMuch => FileInput::TooMuch,
     }
 }
 
-fn cnf_of(read: CnfRead) -> CnfInput
-    ensures { (old new : World) (bytes : List ℕ) → IsAll old new bytes → AnswersCnf read bytes → IsCnfInput result old new bytes }
+fn input_of<V: FileValue>(read: FileRead<V>) -> FileInput<V>
+    ensures { (old new : World) (bytes : List ℕ) → IsAll old new bytes
+        → AnswersFile V.format V.file read bytes → IsInput V.format V.file result old new bytes }
 {
     match read {
-        CnfRead::Cnf(cnf) => CnfInput::Cnf(cnf),
-        CnfRead::Fault(fault) => CnfInput::Refused(fault),
-        CnfRead::NoMemory => CnfInput::NoMemory,
-    }
-}
-
-/// Reads iCNF likewise.
-pub fn read_icnf<L: Link>(alloc: Global, user: &mut L) -> IcnfInput
-    ensures { ReadsIcnf result (L.state user.old) (L.state user.new) }
-{
-    let mut reader = IcnfReader::new(alloc);
-    match feed_all(&mut reader, user) {
-        Fed::All => icnf_of(reader.finish()),
-        Fed::NoMemory => IcnfInput::NoMemory,
-        Fed::ReadFault => IcnfInput::ReadFault,
-        Fed::TooMuch => IcnfInput::TooMuch,
-    }
-}
-
-fn icnf_of(read: IcnfRead) -> IcnfInput
-    ensures { (old new : World) (bytes : List ℕ) → IsAll old new bytes → AnswersIcnf read bytes → IsIcnfInput result old new bytes }
-{
-    match read {
-        IcnfRead::Icnf(icnf) => IcnfInput::Icnf(icnf),
-        IcnfRead::Fault(fault) => IcnfInput::Refused(fault),
-        IcnfRead::NoMemory => IcnfInput::NoMemory,
+        FileRead::Value(value) => FileInput::Value(value),
+        FileRead::Fault(fault) => FileInput::Refused(fault),
+        FileRead::NoMemory => FileInput::NoMemory,
     }
 }

@@ -8,7 +8,8 @@ ghost use Rattle.gi_files.specs.Texts.{code_text, refused_text};
 use gi_dimacs::{CnfCode, CnfFault};
 use gi_outside::{Link, Outbox, Sent};
 
-/// Writes the line that refuses an input for this fault: `refused`, the line and the code's name. Takes no memory. After
+/// Writes the line that refuses an input for this fault: `refused`, the line and the code's name.
+/// Takes no memory. After
 /// `Failed` a front of it was written that lacks its last byte, and the link's count of failed writes rose.
 pub fn write_refused<L: Link>(fault: CnfFault, user: &mut L) -> Sent
     ensures { Sends result (L.state user.old) (L.state user.new) (refused_text fault) }

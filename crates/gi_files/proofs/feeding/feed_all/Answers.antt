@@ -14,7 +14,7 @@ pieces-preserved g c =
       going = record {
         bytes = going.bytes ++ piece;
         gave = gave_on (g.L.Link.state c.read.new.self) piece going gave;
-        read = c.in-Ok.ensures going.bytes going.read;
+        read = c.in-Ok.ensures.ok going.bytes going.read;
         count = omega (arith, length-append going.bytes piece, going.count, length-take-le c.in-Bytes.n c.read.new.into fits);
       };
     }

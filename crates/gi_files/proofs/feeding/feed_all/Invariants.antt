@@ -5,7 +5,7 @@ use Rattle.gi_files.proofs.feeding.feed_all.Given as goal
 abbrev pub invariant-pieces : goal.invariant-pieces
 invariant-pieces g l = record {
   most : l.taken < 2 ^ 62 + 4096;
-  going : Going (g.L.Link.state l.fn.user) (g.L.Link.state l.user) g.R.Pieces.format (g.R.Pieces.reading l.reader) l.taken;
+  going : Going (g.L.Link.state l.fn.user) (g.L.Link.state l.user) g.V.FileValue.format l.reader l.taken;
 }
 
 abbrev pub decreases-pieces : goal.decreases-pieces
