@@ -7,4 +7,5 @@ abbrev pub CycleIsOne : Type 0
 CycleIsOne = (nodes : List Node) (j k : ℕ) → ClosesCycle nodes j → ClosesCycle nodes k → j ≡ k
 
 abbrev pub CyclesStay : Type 0
-CyclesStay = (nodes more : List Node) (k : ℕ) → ClosesCycle nodes k → HasLevels (take (k + 1) nodes ++ more) → ⊥
+CyclesStay = (nodes more : List Node) (k : ℕ) → ClosesCycle nodes k
+    → HasLevels (take (k + 1) nodes ++ more) → ⊥

@@ -28,7 +28,8 @@ pub struct Search {
 /// The levels of gates.
 #[derive(Drop)]
 pub enum Levels {
-    /// The level of each gate, by its place: one more than the greater level of its operands, where what is no gate has level 0.
+    /// The level of each gate, by its place: one more than the greater level of its operands, where
+    /// what is no gate has level 0.
     Found(Vec<usize>),
     /// There are none: the gates have a cycle.
     Cycle,
@@ -47,7 +48,9 @@ fn level_at(s: &Search, place: usize) -> usize
 
 // A gate whose level isn't known yet.
 fn is_open(s: &Search, place: usize) -> bool
-    ensures { MatchBool result ((place < length s.now.level.items) × (slice_index s.now.level.items place ≡ 0)) (place < length s.now.level.items → slice_index s.now.level.items place ≢ 0) }
+    ensures { MatchBool result
+        ((place < length s.now.level.items) × (slice_index s.now.level.items place ≡ 0))
+        (place < length s.now.level.items → slice_index s.now.level.items place ≢ 0) }
 {
     place < s.level.len() && s.level[place] == 0
 }
@@ -56,7 +59,9 @@ fn is_open(s: &Search, place: usize) -> bool
 fn push(s: &mut Search, place: usize) -> Result<(), AllocError>
     requires within { place < length s.old.seen.items }
     requires fresh { 0 < s.old.fresh }
-    ensures { OnOk result ((s.new.seen.items ≡ slice_set s.old.seen.items place true) × (s.new.level.items ≡ s.old.level.items) × (s.new.stack.items ≡ s.old.stack.items ++ place ∷ []) × (s.new.fresh + 1 ≡ s.old.fresh)) }
+    ensures { OnOk result ((s.new.seen.items ≡ slice_set s.old.seen.items place true)
+        × (s.new.level.items ≡ s.old.level.items)
+        × (s.new.stack.items ≡ s.old.stack.items ++ place ∷ []) × (s.new.fresh + 1 ≡ s.old.fresh)) }
 {
     s.stack.push(place)?;
     s.seen[place] = true;
@@ -67,7 +72,10 @@ fn push(s: &mut Search, place: usize) -> Result<(), AllocError>
 // The path's last gate has its level.
 fn settle(s: &mut Search, place: usize, level: usize)
     requires within { place < length s.old.level.items }
-    ensures { (s.new.seen.items ≡ s.old.seen.items) × (s.new.level.items ≡ slice_set s.old.level.items place level) × (s.old.stack.items ≡ [] → s.new.stack.items ≡ []) × (s.new.fresh ≡ s.old.fresh) × (s.new.stack.items ≡ take (length s.old.stack.items - 1) s.old.stack.items) }
+    ensures { (s.new.seen.items ≡ s.old.seen.items)
+        × (s.new.level.items ≡ slice_set s.old.level.items place level)
+        × (s.old.stack.items ≡ [] → s.new.stack.items ≡ []) × (s.new.fresh ≡ s.old.fresh)
+        × (s.new.stack.items ≡ take (length s.old.stack.items - 1) s.old.stack.items) }
 {
     s.level[place] = level;
     s.stack.pop();
@@ -75,11 +83,14 @@ fn settle(s: &mut Search, place: usize, level: usize)
 
 // From a gate to an operand whose level isn't known: onto the path, or a cycle is closed.
 fn descend(s: &mut Search, nodes: &[Node], top: usize, place: usize) -> Result<bool, AllocError>
-    requires sound { Searching nodes.now s.old.seen.items s.old.level.items s.old.stack.items s.old.fresh }
+    requires sound { Searching nodes.now s.old.seen.items s.old.level.items s.old.stack.items
+        s.old.fresh }
     requires last { IsLast s.old.stack.items top }
     requires operand { IsOperand nodes.now top place }
     requires open { slice_index s.old.level.items place ≡ 0 }
-    ensures { IfOk result (λ on. MatchBool on (Advances nodes.now s.old.level.items s.old.stack.items s.old.fresh s.new.seen.items s.new.level.items s.new.stack.items s.new.fresh) (HasLevels nodes.now → ⊥)) }
+    ensures { IfOk result (λ on. MatchBool on (Advances nodes.now s.old.level.items
+        s.old.stack.items s.old.fresh s.new.seen.items s.new.level.items s.new.stack.items
+        s.new.fresh) (HasLevels nodes.now → ⊥)) }
 {
     let _nodes = nodes.len();
     if s.seen[place] {
@@ -91,9 +102,12 @@ fn descend(s: &mut Search, nodes: &[Node], top: usize, place: usize) -> Result<b
 
 // One step from the path's last gate.
 fn advance(s: &mut Search, nodes: &[Node], top: usize) -> Result<bool, AllocError>
-    requires sound { Searching nodes.now s.old.seen.items s.old.level.items s.old.stack.items s.old.fresh }
+    requires sound { Searching nodes.now s.old.seen.items s.old.level.items s.old.stack.items
+        s.old.fresh }
     requires last { IsLast s.old.stack.items top }
-    ensures { IfOk result (λ on. MatchBool on (Advances nodes.now s.old.level.items s.old.stack.items s.old.fresh s.new.seen.items s.new.level.items s.new.stack.items s.new.fresh) (HasLevels nodes.now → ⊥)) }
+    ensures { IfOk result (λ on. MatchBool on (Advances nodes.now s.old.level.items
+        s.old.stack.items s.old.fresh s.new.seen.items s.new.level.items s.new.stack.items
+        s.new.fresh) (HasLevels nodes.now → ⊥)) }
 {
     let node = nodes[top];
     if is_open(s, node.left) {
@@ -110,9 +124,12 @@ fn advance(s: &mut Search, nodes: &[Node], top: usize) -> Result<bool, AllocErro
 
 // Goes from a gate to all below it.
 fn visit(s: &mut Search, nodes: &[Node], root: usize) -> Result<bool, AllocError>
-    requires sound { Searching nodes.now s.old.seen.items s.old.level.items s.old.stack.items s.old.fresh }
+    requires sound { Searching nodes.now s.old.seen.items s.old.level.items s.old.stack.items
+        s.old.fresh }
     requires rooted { Rooted root s.old.stack.items s.old.level.items }
-    ensures { IfOk result (λ on. MatchBool on (Visited nodes.now root s.old.level.items s.new.seen.items s.new.level.items s.new.stack.items s.new.fresh) (HasLevels nodes.now → ⊥)) }
+    ensures { IfOk result (λ on. MatchBool on (Visited nodes.now root s.old.level.items
+        s.new.seen.items s.new.level.items s.new.stack.items s.new.fresh)
+        (HasLevels nodes.now → ⊥)) }
 {
     'steps: while let Some(top) = s.stack.last().copied() {
         if !advance(s, nodes, top)? {
@@ -124,7 +141,8 @@ fn visit(s: &mut Search, nodes: &[Node], root: usize) -> Result<bool, AllocError
 
 // Nothing is known yet.
 fn new_search(alloc: Global, count: usize) -> Result<Search, AllocError>
-    ensures { IfOk result (λ s. (s.seen.items ≡ replicate count false) × (s.level.items ≡ replicate count 0) × (s.stack.items ≡ []) × (s.fresh ≡ count)) }
+    ensures { IfOk result (λ s. (s.seen.items ≡ replicate count false)
+        × (s.level.items ≡ replicate count 0) × (s.stack.items ≡ []) × (s.fresh ≡ count)) }
 {
     Ok(Search {
         seen: vec![in alloc; false; count]?,
@@ -134,7 +152,8 @@ fn new_search(alloc: Global, count: usize) -> Result<Search, AllocError>
     })
 }
 
-/// The levels of gates that come in any order, or that they have a cycle. Takes time by the number of gates.
+/// The levels of gates that come in any order, or that they have a cycle. Takes time by the number
+/// of gates.
 pub fn levels_of(alloc: Global, nodes: &[Node]) -> Result<Levels, AllocError>
     ensures { IfOk result (FindsLevels nodes.now) }
 {
@@ -149,10 +168,13 @@ pub fn levels_of(alloc: Global, nodes: &[Node]) -> Result<Levels, AllocError>
 
 // From one gate, unless its level is known.
 fn start(s: &mut Search, nodes: &[Node], root: usize) -> Result<bool, AllocError>
-    requires sound { Searching nodes.now s.old.seen.items s.old.level.items s.old.stack.items s.old.fresh }
+    requires sound { Searching nodes.now s.old.seen.items s.old.level.items s.old.stack.items
+        s.old.fresh }
     requires none { s.old.stack.items ≡ [] }
     requires within { root < length nodes.now }
-    ensures { IfOk result (λ on. MatchBool on (Visited nodes.now root s.old.level.items s.new.seen.items s.new.level.items s.new.stack.items s.new.fresh) (HasLevels nodes.now → ⊥)) }
+    ensures { IfOk result (λ on. MatchBool on (Visited nodes.now root s.old.level.items
+        s.new.seen.items s.new.level.items s.new.stack.items s.new.fresh)
+        (HasLevels nodes.now → ⊥)) }
 {
     let _count = nodes.len();
     if s.level[root] != 0 {
@@ -162,10 +184,12 @@ fn start(s: &mut Search, nodes: &[Node], root: usize) -> Result<bool, AllocError
     visit(s, nodes, root)
 }
 
-/// The place of the gate that closes the first cycle, if there is one: those before it have none, and with it they have one.
-/// Takes time by the number of gates, and where there is a cycle that times the number's logarithm.
+/// The place of the gate that closes the first cycle, if there is one: those before it have none,
+/// and with it they have one. Takes time by the number of gates, and where there is a cycle that
+/// times the number's logarithm.
 pub fn first_cycle(alloc: Global, nodes: &[Node]) -> Result<Option<usize>, AllocError>
-    ensures { IfOk result (λ found. MatchOption found (HasLevels nodes.now) (ClosesCycle nodes.now)) }
+    ensures { IfOk result (λ found. MatchOption found (HasLevels nodes.now)
+        (ClosesCycle nodes.now)) }
 {
     if is_acyclic(alloc, nodes, nodes.len())? {
         return Ok(None);
@@ -186,7 +210,8 @@ pub fn first_cycle(alloc: Global, nodes: &[Node]) -> Result<Option<usize>, Alloc
 // Whether the first gates have no cycle.
 fn is_acyclic(alloc: Global, nodes: &[Node], count: usize) -> Result<bool, AllocError>
     requires { count ≤ length nodes.now }
-    ensures { IfOk result (λ yes. MatchBool yes (HasLevels (take count nodes.now)) (HasLevels (take count nodes.now) → ⊥)) }
+    ensures { IfOk result (λ yes. MatchBool yes (HasLevels (take count nodes.now))
+        (HasLevels (take count nodes.now) → ⊥)) }
 {
     let levels = levels_of(alloc, front(nodes, count))?;
     Ok(has_levels(levels))

@@ -7,11 +7,15 @@ ghost use Rattle.gi_levels.specs.Order.{by_level, up_to_level};
 use crate::levels::{Levels, Node, levels_of};
 use std::alloc::{AllocError, Global};
 
-/// The places of gates by level, and within a level in their order. None exactly where the gates have a cycle.
-/// Takes time by the number of gates times its logarithm, and by the number alone where their levels rise.
+/// The places of gates by level, and within a level in their order. None exactly where the gates
+/// have a cycle. Takes time by the number of gates times its logarithm, and by the number alone
+/// where their levels rise.
 pub fn by_level(alloc: Global, nodes: &[Node]) -> Result<Option<Vec<usize>>, AllocError>
-    ensures order { IfOk result (λ found. MatchOption found (HasLevels nodes.now → ⊥) (λ places. places.items ≡ by_level nodes.now)) }
-    ensures acyclic { IfOk result (λ found. MatchOption found (HasLevels nodes.now → ⊥) (λ places. HasLevels nodes.now)) }
+    ensures order { IfOk result
+        (λ found. MatchOption found (HasLevels nodes.now → ⊥)
+        (λ places. places.items ≡ by_level nodes.now)) }
+    ensures acyclic { IfOk result
+        (λ found. MatchOption found (HasLevels nodes.now → ⊥) (λ places. HasLevels nodes.now)) }
 {
     match levels_of(alloc, nodes)? {
         Levels::Found(levels) => Ok(Some(in_order(alloc, &levels)?)),
@@ -43,8 +47,11 @@ fn places(alloc: Global, count: usize) -> Result<Vec<usize>, AllocError>
 
 // The places by these levels, each from 1 up to how many there are.
 fn in_order(alloc: Global, levels: &[usize]) -> Result<Vec<usize>, AllocError>
-    requires { (k : ℕ) → k < length levels.now → (0 < slice_index levels.now k) × (slice_index levels.now k ≤ length levels.now) }
-    ensures { IfOk result (λ places. places.items ≡ up_to_level (slice_index levels.now) (range_with_len 0 (length levels.now)) (length levels.now)) }
+    requires { (k : ℕ) → k < length levels.now
+        → (0 < slice_index levels.now k) × (slice_index levels.now k ≤ length levels.now) }
+    ensures { IfOk result (λ places. places.items
+        ≡ up_to_level (slice_index levels.now) (range_with_len 0 (length levels.now))
+        (length levels.now)) }
 {
     let mut places = places(alloc, levels.len())?;
     places.sort_by_key(|place| level_at(levels, *place))?;
