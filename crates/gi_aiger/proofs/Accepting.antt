@@ -26,18 +26,20 @@ use Rattle.gi_aiger.specs.Marks.{missing, marks_of}
 use Rattle.gi_aiger.specs.Header.{is_within}
 use Rattle.gi_aiger.specs.Sections.{sections_of, left_in}
 use Rattle.gi_aiger.specs.Taking.{with_row, with_line, is_known, to_come, checked, add_by, room, left_out, own_latch}
-use Rattle.gi_aiger.specs.Files.{Told, shares, aig_of, begin, evens, after_header, after_sections, read_gates, read_section, read_sections, read_symbols, read_lines, read_file}
+use Rattle.gi_aiger.specs.Evens.{evens}
+use Rattle.gi_aiger.specs.Files.{Told, shares, aig_of, begin, after_header, after_sections, read_gates, read_section, read_sections, read_symbols, read_lines, read_file}
 use Rattle.gi_aiger.specs.Relation.{IsDefining, IsSound, IsAscii, IsBinary, IsAig, AllSay, AreOnce, head_of_aig, rows_at, rows_of, defining_literals, leaves_out}
 use Rattle.gi_aiger.proofs.Marking.{closed_end}
 use Rattle.gi_aiger.proofs.Fitting.{header_within}
+use Rattle.gi_aiger.proofs.Limiting.{are_within}
 use Rattle.gi_aiger.proofs.Spelling.{InRange}
 use Rattle.gi_aiger.proofs.Putting.{takes, takes-append, after, section_takes, Lists, rows_by, state_by, News, Counts}
 use Rattle.gi_aiger.proofs.Going.{AllRight, sections_there}
 use Rattle.gi_aiger.proofs.Titling.{symbols_there}
 use Rattle.gi_aiger.proofs.Pairing.{Owns, AreSmall, gates_there}
 use Rattle.gi_aiger.proofs.Numbering.{AreFrom, from_left, from_right, from_evens, evens_from, evens_length}
-use Rattle.gi_aiger.proofs.Knowing.{latch_in, gate_in, input_in, define_all, unknown, few_missing}
-use Rattle.gi_aiger.proofs.Sounding.{defining_in, size_in, defining_all, latches_all, gates_all, sizes_all, sum_lengths, others_of, others_plain, latches_takes, gates_takes, sizes_takes, marks_takes, each_at, each_right, Low, in_range, sum_flat, sum_none, sum_ones, variables_are}
+use Rattle.gi_aiger.proofs.Knowing.{latch_in, gate_in, input_in, size_in, define_all, unknown, few_missing}
+use Rattle.gi_aiger.proofs.Sounding.{defining_in, defining_all, latches_all, gates_all, sizes_all, sum_lengths, others_of, others_plain, latches_takes, gates_takes, sizes_takes, marks_takes, each_at, each_right, Low, in_range, sum_same, counts, rows_count, variables_are}
 use Rattle.gi_aiger.specs.Limits.{most_items}
 
 -- a sound value's rows are in range
@@ -139,33 +141,13 @@ pub rows_around : (v : Aig) → rows_of v ≡ map rows.Input v.inputs ++ (mid_of
 rows_around v = ap (λ (rs : List Row). map rows.Input v.inputs ++ rs) (flat_map-append (rows_at v) mids (sections.Gate ∷ []) ∙ ap (λ (rs : List Row). mid_of v ++ rs) (append-nil (map rows.Gate v.gates)))
 
 pub mid_inputs : (v : Aig) → sum_by input_in (mid_of v) ≡ 0
-mid_inputs v = omega (
-  arith,
-  sum_flat input_in (rows_at v) mids,
-  sum_none input_in rows.Latch (λ l. refl) v.latches,
-  sum_none input_in rows.Out (λ l. refl) v.outs,
-  sum_none input_in rows.Bad (λ l. refl) v.bads,
-  sum_none input_in rows.Con (λ l. refl) v.cons,
-  sum_none input_in (λ p. rows.Size (length p)) (λ p. refl) v.justice,
-  sum_none input_in rows.Justice (λ l. refl) (flat_map (λ p. p) v.justice),
-  sum_none input_in rows.Fair (λ l. refl) v.fair,
-)
+mid_inputs v = rows_count 1 0 0 false v mids ∙ (let s : sum_by (counts 1 0 0 false v) mids ≡ 0 = omega arith in s)
 
 pub mid_gates : (v : Aig) → sum_by gate_in (mid_of v) ≡ 0
-mid_gates v = omega (
-  arith,
-  sum_flat gate_in (rows_at v) mids,
-  sum_none gate_in rows.Latch (λ l. refl) v.latches,
-  sum_none gate_in rows.Out (λ l. refl) v.outs,
-  sum_none gate_in rows.Bad (λ l. refl) v.bads,
-  sum_none gate_in rows.Con (λ l. refl) v.cons,
-  sum_none gate_in (λ p. rows.Size (length p)) (λ p. refl) v.justice,
-  sum_none gate_in rows.Justice (λ l. refl) (flat_map (λ p. p) v.justice),
-  sum_none gate_in rows.Fair (λ l. refl) v.fair,
-)
+mid_gates v = rows_count 0 0 1 false v mids ∙ (let s : sum_by (counts 0 0 1 false v) mids ≡ 0 = omega arith in s)
 
 inputs_measured : (ins : List ℕ) → (sum_by input_in (map rows.Input ins) ≡ length ins) × (sum_by latch_in (map rows.Input ins) ≡ 0) × (sum_by gate_in (map rows.Input ins) ≡ 0) × (sum_by size_in (map rows.Input ins) ≡ 0)
-inputs_measured ins = (sum_ones input_in rows.Input (λ l. refl) ins, sum_none latch_in rows.Input (λ l. refl) ins, sum_none gate_in rows.Input (λ l. refl) ins, sum_none size_in rows.Input (λ l. refl) ins)
+inputs_measured ins = (omega (arith, sum_same input_in rows.Input 1 (λ l. refl) ins), omega (arith, sum_same latch_in rows.Input 0 (λ l. refl) ins), omega (arith, sum_same gate_in rows.Input 0 (λ l. refl) ins), omega (arith, sum_same size_in rows.Input 0 (λ l. refl) ins))
 
 -- so many literals are defined
 pub defining_length : (rs : List Row) → length (flat_map defining_in rs) ≡ sum_by input_in rs + sum_by latch_in rs + sum_by gate_in rs
@@ -263,7 +245,7 @@ binary_read v bytes a =
     let inputs : v.inputs ≡ evens (length v.inputs) = from_evens v.inputs (from_left 0 v.inputs lits (from_left 0 (v.inputs ++ lits) lhss from)) in
     let stands = state_by Binary mids (begin h) (mid_lists v) in
     let within = header_within (bare a.head) h a.header in
-    let small : v.max ≤ most_items = first_within h within in
+    let small : v.max ≤ most_items = (are_within h within).max in
     let defining = each_right (IsDefining v.max) (v.inputs ++ lits) lhss (recursion_from_All (IsDefining v.max) (defining_literals v) a.sound.defining) in
     let place : 0 + length (v.inputs ++ lits) ≡ length v.inputs + length v.latches + length {A = AndGate} [] = omega (arith, length-append v.inputs lits, length-map v.latches (λ (l : Latch). l.lit)) in
     let owns : Owns h stands v.gates = owns_there h v.gates stands (subst (λ (n : ℕ). AreFrom n lhss) place (from_right 0 (v.inputs ++ lits) lhss from)) in
@@ -277,32 +259,7 @@ binary_read v bytes a =
     ap (λ (bs : List ℕ). (read_gates h k (left_in h stands sections.Gate) stands bs).read) a.parts ∙ ap (λ (n : ℕ). (read_gates h k n stands (a.gates ++ a.after)).read) (sym count)
     ∙ gates_there h (λ (told : Told). told.read ≡ Ok v) k a.after stands v.gates a.gates a.gates_are owns (small_gates v.max v.gates small defining) (named k) in
     let read : (read_sections h mids 2 (begin h) (a.body ++ a.behind)).read ≡ Ok v = sections_there h (λ (told : Told). told.read ≡ Ok v) a.behind mids 2 (begin h) a.body (mid_lists v) (mid_news h) (mid_counts v) right ends in
-    ap (λ (ls : List (List ℕ)). (read_lines ls).read) a.lines ∙ ap (λ (r : Result Head AigCode). (after_header r (a.body ++ a.behind)).read) a.header ∙ ap (λ (t : Told). t.read) (skip_inputs h (a.body ++ a.behind)) ∙ read where
-      both : (a b : Bool) → (a && b) ≡ true → (a ≡ true) × (b ≡ true)
-      both true b h = (refl, h)
-      both false b h = absurd cc
-
-      low : (n : ℕ) → nat_le n most_items ≡ true → n ≤ most_items
-      low n t = grind (arith, nat_tests, t)
-
-      first_within : (h : Head) → is_within h ≡ true → h.max ≤ most_items
-      first_within h t = low h.max (
-          both (nat_le h.max most_items) (nat_le h.inputs most_items) (
-          both (nat_le h.max most_items && nat_le h.inputs most_items) (nat_le h.latches most_items) (
-          both (nat_le h.max most_items && nat_le h.inputs most_items && nat_le h.latches most_items) (nat_le h.outs most_items) (
-          both (nat_le h.max most_items && nat_le h.inputs most_items && nat_le h.latches most_items && nat_le h.outs most_items) (nat_le h.gates most_items) (
-          both (nat_le h.max most_items && nat_le h.inputs most_items && nat_le h.latches most_items && nat_le h.outs most_items && nat_le h.gates most_items) (nat_le h.bads most_items) (
-          both (nat_le h.max most_items && nat_le h.inputs most_items && nat_le h.latches most_items && nat_le h.outs most_items && nat_le h.gates most_items && nat_le h.bads most_items) (nat_le h.cons most_items) (
-          both (nat_le h.max most_items && nat_le h.inputs most_items && nat_le h.latches most_items && nat_le h.outs most_items && nat_le h.gates most_items && nat_le h.bads most_items && nat_le h.cons most_items) (nat_le h.justice most_items) (
-          both (nat_le h.max most_items && nat_le h.inputs most_items && nat_le h.latches most_items && nat_le h.outs most_items && nat_le h.gates most_items && nat_le h.bads most_items && nat_le h.cons most_items && nat_le h.justice most_items) (nat_le h.fair most_items) t
-          ).0
-          ).0
-          ).0
-          ).0
-          ).0
-          ).0
-          ).0
-          ).0
+    ap (λ (ls : List (List ℕ)). (read_lines ls).read) a.lines ∙ ap (λ (r : Result Head AigCode). (after_header r (a.body ++ a.behind)).read) a.header ∙ ap (λ (t : Told). t.read) (skip_inputs h (a.body ++ a.behind)) ∙ read
 
 pub said_read : (v : Aig) (bytes : List ℕ) → IsAig v bytes → (read_file bytes).read ≡ Ok v
 said_read v bytes (inl a) = ascii_read v bytes a

@@ -1,5 +1,5 @@
 -- What a line of a section adds.
-use Rattle.std.proofs.Common.{◌≡◌, ℕ, suc, nat_lt, List, [], ◌∷◌, length, get_or, Bool, true, false, cond, Option, Some, None, Result, Ok, Err, refl, ap, sym, ◌∙◌, subst, arith, length-append}
+use Rattle.std.proofs.Common.{◌≡◌, ℕ, suc, ◌+◌, ◌≤◌, nat_lt, List, [], ◌∷◌, length, get_or, Bool, true, false, cond, Option, Some, None, Result, Ok, Err, refl, ap, sym, ◌∙◌, subst, arith, length-append}
 use Rattle.gi_aiger.specs.declared.fault.AigCode.{AigCode}
 use Rattle.gi_aiger.specs.declared.fault.AigCode.TheVariants.{Defined, Undefined, Count}
 use Rattle.gi_aiger.specs.declared.aig.Reset.{Reset}
@@ -16,6 +16,7 @@ use Rattle.gi_aiger.specs.Rows.{has_row, literal_of, defining_of, reset_of, latc
 use Rattle.gi_aiger.specs.Marks.{marked, missing}
 use Rattle.gi_aiger.specs.Taking.{with_row, with_line, is_known, to_come, checked, add_by, add_row, add_line, then_row, room, numbers_in}
 use Rattle.gi_aiger.specs.Sections.{left_in}
+use Rattle.gi_aiger.specs.Files.{gates_line}
 
 -- a row that is read is of its section
 abbrev pub IsOf : Section → Result Row AigCode → Type 0
@@ -121,3 +122,51 @@ one_less h t u s line n e left =
     let r = added_is h t u a.row a.added in
     let before : left_in h (record t { marks = r.marks }) (section_of a.row) ≡ suc n = ap (left_in h (record t { marks = r.marks })) a.section ∙ marks_no h t r.marks s ∙ left in
     ap (left_in h u) (sym a.section) ∙ ap (λ (v : Taken). left_in h v (section_of a.row)) r.is ∙ less h (record t { marks = r.marks }) a.row n before
+
+-- a line adds one to its section
+row_counts : (t : Taken) (r : Row) → (gates_line (with_row t r) + length (with_row t r).gates ≡ gates_line t + length t.gates + 1) × (gates_line t ≤ gates_line (with_row t r))
+row_counts t (rows.Input l) = (omega (arith, length-append t.inputs (l ∷ [])), omega (arith, length-append t.inputs (l ∷ [])))
+row_counts t (rows.Latch l) = (omega (arith, length-append t.latches (l ∷ [])), omega (arith, length-append t.latches (l ∷ [])))
+row_counts t (rows.Out l) = (omega (arith, length-append t.outs (l ∷ [])), omega (arith, length-append t.outs (l ∷ [])))
+row_counts t (rows.Bad l) = (omega (arith, length-append t.bads (l ∷ [])), omega (arith, length-append t.bads (l ∷ [])))
+row_counts t (rows.Con l) = (omega (arith, length-append t.cons (l ∷ [])), omega (arith, length-append t.cons (l ∷ [])))
+row_counts t (rows.Size n) = (omega (arith, length-append t.sizes (n ∷ [])), omega (arith, length-append t.sizes (n ∷ [])))
+row_counts t (rows.Justice l) = (omega (arith, length-append t.justice (l ∷ [])), omega (arith, length-append t.justice (l ∷ [])))
+row_counts t (rows.Fair l) = (omega (arith, length-append t.fair (l ∷ [])), omega (arith, length-append t.fair (l ∷ [])))
+row_counts t (rows.Gate g) = (omega (arith, length-append t.gates (g ∷ [])), omega arith)
+
+pub line_counts : (h : Head) (t u : Taken) (s : Section) (line : List ℕ) → add_line h t s line ≡ Ok u → (gates_line u + length u.gates ≡ gates_line t + length t.gates + 1) × (gates_line t ≤ gates_line u)
+line_counts h t u s line e =
+    let a = adds h t u s line e in
+    let r = added_is h t u a.row a.added in
+    subst (λ (v : Taken). (gates_line v + length v.gates ≡ gates_line t + length t.gates + 1) × (gates_line t ≤ gates_line v)) (sym r.is) (row_counts (record t { marks = r.marks }) a.row)
+
+-- lines that are no gates leave the gates
+unfoldable pub is_gate : Section → Bool
+is_gate sections.Input = false
+is_gate sections.Latch = false
+is_gate sections.Out = false
+is_gate sections.Bad = false
+is_gate sections.Con = false
+is_gate sections.Size = false
+is_gate sections.Justice = false
+is_gate sections.Fair = false
+is_gate sections.Gate = true
+
+row_same : (t : Taken) (r : Row) → is_gate (section_of r) ≡ false → (with_row t r).gates ≡ t.gates
+unfolding is_gate
+row_same t (rows.Input l) plain = refl
+row_same t (rows.Latch l) plain = refl
+row_same t (rows.Out l) plain = refl
+row_same t (rows.Bad l) plain = refl
+row_same t (rows.Con l) plain = refl
+row_same t (rows.Size n) plain = refl
+row_same t (rows.Justice l) plain = refl
+row_same t (rows.Fair l) plain = refl
+row_same t (rows.Gate g) plain = absurd cc
+
+pub line_same : (h : Head) (t u : Taken) (s : Section) (line : List ℕ) → is_gate s ≡ false → add_line h t s line ≡ Ok u → u.gates ≡ t.gates
+line_same h t u s line plain e =
+    let a = adds h t u s line e in
+    let r = added_is h t u a.row a.added in
+    ap (λ (v : Taken). v.gates) r.is ∙ row_same (record t { marks = r.marks }) a.row (ap is_gate a.section ∙ plain)

@@ -25,7 +25,7 @@ use Rattle.gi_aiger.specs.Groups.{groups_at, difference_of, greater_at, lesser_a
 use Rattle.gi_aiger.specs.Named.{add_symbol}
 use Rattle.gi_aiger.specs.Levels.{gate_at, IsDistinct}
 use Rattle.gi_aiger.specs.Files.{Told, gate_stopped, whole, begins_comment, comment_of, then_symbols, read_symbols, own_gate, with_gate, then_groups, then_edge, read_gates, after_sections, then_line, read_section, read_sections, begin, after_header, read_lines, read_file}
-use Rattle.gi_aiger.proofs.Adding.{adds, added_is}
+use Rattle.gi_aiger.proofs.Adding.{adds, is_gate, line_same}
 use Rattle.gi_aiger.proofs.Marking.{rows_keep, rows_define}
 use Rattle.gi_aiger.proofs.Resolving.{place_or}
 
@@ -193,25 +193,12 @@ ascii_all h form (s ∷ ss) = (ascii_keeps h s form, ascii_all h form ss)
 abbrev IsEmpty : Taken → Type 0
 IsEmpty t = t.gates ≡ []
 
-no_gate : (t : Taken) (row : Row) → section_of row ≢ sections.Gate → (with_row t row).gates ≡ t.gates
-no_gate t (rows.Input l) ne = refl
-no_gate t (rows.Latch l) ne = refl
-no_gate t (rows.Out l) ne = refl
-no_gate t (rows.Bad l) ne = refl
-no_gate t (rows.Con l) ne = refl
-no_gate t (rows.Size n) ne = refl
-no_gate t (rows.Justice l) ne = refl
-no_gate t (rows.Fair l) ne = refl
-no_gate t (rows.Gate g) ne = absurd (ne refl)
-
-binary_keeps : (h : Head) (s : Section) → s ≢ sections.Gate → Keeps h IsEmpty s
-binary_keeps h s ne t u line none e =
-    let a = adds h t u s line e in
-    let r = added_is h t u a.row a.added in
-    ap (λ (v : Taken). v.gates) r.is ∙ no_gate (record t { marks = r.marks }) a.row (λ is. ne (sym a.section ∙ is)) ∙ none
+binary_keeps : (h : Head) (s : Section) → is_gate s ≡ false → Keeps h IsEmpty s
+binary_keeps h s plain t u line none e = line_same h t u s line plain e ∙ none
 
 binary_all : (h : Head) → AllKeep h IsEmpty (sections_of Binary)
-binary_all h = (binary_keeps h sections.Input (λ e. absurd cc), (binary_keeps h sections.Latch (λ e. absurd cc), (binary_keeps h sections.Out (λ e. absurd cc), (binary_keeps h sections.Bad (λ e. absurd cc), (binary_keeps h sections.Con (λ e. absurd cc), (binary_keeps h sections.Size (λ e. absurd cc), (binary_keeps h sections.Justice (λ e. absurd cc), (binary_keeps h sections.Fair (λ e. absurd cc), tt))))))))
+unfolding is_gate
+binary_all h = (binary_keeps h sections.Input refl, (binary_keeps h sections.Latch refl, (binary_keeps h sections.Out refl, (binary_keeps h sections.Bad refl, (binary_keeps h sections.Con refl, (binary_keeps h sections.Size refl, (binary_keeps h sections.Justice refl, (binary_keeps h sections.Fair refl, tt))))))))
 
 none_apart : (gs : List AndGate) → gs ≡ [] → IsDistinct gs
 none_apart gs e = record { apart = λ j k a b same. absurd (omega (arith, a, ap length e)) }

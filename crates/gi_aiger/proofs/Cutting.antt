@@ -21,9 +21,10 @@ use Rattle.gi_aiger.specs.Sections.{left_in, sections_of}
 use Rattle.gi_aiger.specs.Groups.{groups_at, difference_of, greater_at, lesser_at}
 use Rattle.gi_aiger.specs.Named.{add_symbol}
 use Rattle.gi_aiger.specs.Files.{Told, gates_line, stopped, gate_stopped, whole, begins_comment, comment_of, then_symbols, read_symbols, own_gate, with_gate, then_groups, then_edge, read_gates, after_sections, then_line, read_section, read_sections, begin, after_header, read_lines}
-use Rattle.gi_aiger.proofs.Adding.{adds, added_is}
+use Rattle.gi_aiger.proofs.Adding.{line_counts}
 use Rattle.gi_aiger.proofs.Deserving.{bare_is_plain}
 use Rattle.gi_aiger.proofs.Ending.{Stand, whole_stands, stopped_stands}
+use Rattle.gi_aiger.proofs.Failing.{line_of, code_of}
 use Rattle.gi_aiger.proofs.Growing.{Grown, stays, grown_then, first_grown, line_grown}
 use Rattle.gi_aiger.proofs.Lining.{AreLines, bare_whole, bare_plain}
 use Rattle.gi_aiger.proofs.Runs.{cut_no}
@@ -52,38 +53,12 @@ pub rest_lines : (l : List ℕ) (ls : List (List ℕ)) → AreLines (l ∷ ls) �
 rest_lines l ls (inl q) = q.3
 rest_lines l ls (inr q) = subst AreLines (sym q.4) tt
 
--- a line adds one to its section
-row_counts : (t : Taken) (r : Row) → (gates_line (with_row t r) + length (with_row t r).gates ≡ gates_line t + length t.gates + 1) × (gates_line t ≤ gates_line (with_row t r))
-row_counts t (rows.Input l) = (omega (arith, length-append t.inputs (l ∷ [])), omega (arith, length-append t.inputs (l ∷ [])))
-row_counts t (rows.Latch l) = (omega (arith, length-append t.latches (l ∷ [])), omega (arith, length-append t.latches (l ∷ [])))
-row_counts t (rows.Out l) = (omega (arith, length-append t.outs (l ∷ [])), omega (arith, length-append t.outs (l ∷ [])))
-row_counts t (rows.Bad l) = (omega (arith, length-append t.bads (l ∷ [])), omega (arith, length-append t.bads (l ∷ [])))
-row_counts t (rows.Con l) = (omega (arith, length-append t.cons (l ∷ [])), omega (arith, length-append t.cons (l ∷ [])))
-row_counts t (rows.Size n) = (omega (arith, length-append t.sizes (n ∷ [])), omega (arith, length-append t.sizes (n ∷ [])))
-row_counts t (rows.Justice l) = (omega (arith, length-append t.justice (l ∷ [])), omega (arith, length-append t.justice (l ∷ [])))
-row_counts t (rows.Fair l) = (omega (arith, length-append t.fair (l ∷ [])), omega (arith, length-append t.fair (l ∷ [])))
-row_counts t (rows.Gate g) = (omega (arith, length-append t.gates (g ∷ [])), omega arith)
-
-line_counts : (h : Head) (t u : Taken) (s : Section) (line : List ℕ) → add_line h t s line ≡ Ok u → (gates_line u + length u.gates ≡ gates_line t + length t.gates + 1) × (gates_line t ≤ gates_line u)
-line_counts h t u s line e =
-    let a = adds h t u s line e in
-    let r = added_is h t u a.row a.added in
-    subst (λ (v : Taken). (gates_line v + length v.gates ≡ gates_line t + length t.gates + 1) × (gates_line t ≤ gates_line v)) (sym r.is) (row_counts (record t { marks = r.marks }) a.row)
-
 -- what is read from a line on: the gates that stand stay, and no fault is before it
 pub record Later (k : ℕ) (t : Taken) (told : Told) : Type 0 where
   pub grown : Grown t.gates told.gates
   pub first : gates_line t ≤ told.first
   pub line : (f : AigFault) → told.read ≡ Err f → k ≤ f.line
   pub stand : Stand told
-
-line_of : Result Aig AigFault → ℕ
-line_of (Ok v) = 0
-line_of (Err f) = f.line
-
-code_of : Result Aig AigFault → AigCode
-code_of (Ok v) = End
-code_of (Err f) = f.code
 
 stopped_later : (t : Taken) (k g : ℕ) (c : AigCode) → Later k t (stopped t k g c)
 unfolding line_of

@@ -131,15 +131,20 @@ run_clean : (s : Machine) (bytes : List ℕ) → IsClean s → IsClean (run s by
 run_clean s [] clean = subst IsClean (sym (run-nil s)) clean
 run_clean s (b ∷ bs) clean = subst IsClean (sym (run-cons s b bs)) (run_clean (take_byte s b) bs (clean_step s.alloc s.line s.phase s.head s.word s.taken s.symbols s.comment b clean))
 
--- what is answered without a fault that was found
-code_of : Result Aig AigFault → AigCode
+-- a fault that is read
+unfoldable pub line_of : Result Aig AigFault → ℕ
+line_of (Ok v) = 0
+line_of (Err f) = f.line
+
+unfoldable pub code_of : Result Aig AigFault → AigCode
 code_of (Ok v) = End
 code_of (Err f) = f.code
 
-gate_of : Result Aig AigFault → ℕ
+unfoldable pub gate_of : Result Aig AigFault → ℕ
 gate_of (Ok v) = 0
 gate_of (Err f) = f.gate
 
+-- what is answered without a fault that was found
 live_end : (p : Phase) (s : Machine) (f : AigFault) → is_failed p ≡ false → (answer_of p s).read ≡ Err f → f.code ≡ End
 unfolding code_of
 live_end Heading s f live e = sym (ap code_of e)

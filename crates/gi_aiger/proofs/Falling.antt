@@ -19,7 +19,7 @@ use Rattle.gi_aiger.specs.Taking.{with_row, add_line}
 use Rattle.gi_aiger.specs.Sections.{left_in, sections_of}
 use Rattle.gi_aiger.specs.Groups.{groups_at, difference_of, greater_at, lesser_at}
 use Rattle.gi_aiger.specs.Files.{Told, gate_stopped, own_gate, with_gate, then_groups, then_edge, read_gates, after_sections, then_line, read_section, read_sections, begin}
-use Rattle.gi_aiger.proofs.Adding.{adds, added_is}
+use Rattle.gi_aiger.proofs.Adding.{is_gate, line_same}
 use Rattle.gi_aiger.proofs.Cutting.{symbols_gates}
 use Rattle.gi_aiger.proofs.Pairing.{greater_back, lesser_back}
 
@@ -69,36 +69,6 @@ gates_fall h k (suc n) t bytes all = by_first (groups_at bytes) (λ u more all. 
       → Fall (then_groups o (gate_stopped t k End) (λ first rest. then_edge (greater_at (own_gate h t) (difference_of first)) (gate_stopped t k) (λ e. then_groups (groups_at rest) (gate_stopped t k End) (λ second more. then_edge (lesser_at e (difference_of second)) (gate_stopped t k) (λ l. read_gates h k n (with_gate t (own_gate h t) e l) more)))))
   by_first None ih = all
   by_first (Some p) ih = by_greater (greater_at (own_gate h t) (difference_of p.0)) p.1 (difference_of p.0) refl ih
-
--- lines that are no gates leave the gates
-unfoldable pub is_gate : Section → Bool
-is_gate sections.Input = false
-is_gate sections.Latch = false
-is_gate sections.Out = false
-is_gate sections.Bad = false
-is_gate sections.Con = false
-is_gate sections.Size = false
-is_gate sections.Justice = false
-is_gate sections.Fair = false
-is_gate sections.Gate = true
-
-row_same : (t : Taken) (r : Row) → is_gate (section_of r) ≡ false → (with_row t r).gates ≡ t.gates
-unfolding is_gate
-row_same t (rows.Input l) plain = refl
-row_same t (rows.Latch l) plain = refl
-row_same t (rows.Out l) plain = refl
-row_same t (rows.Bad l) plain = refl
-row_same t (rows.Con l) plain = refl
-row_same t (rows.Size n) plain = refl
-row_same t (rows.Justice l) plain = refl
-row_same t (rows.Fair l) plain = refl
-row_same t (rows.Gate g) plain = absurd cc
-
-pub line_same : (h : Head) (t u : Taken) (s : Section) (line : List ℕ) → is_gate s ≡ false → add_line h t s line ≡ Ok u → u.gates ≡ t.gates
-line_same h t u s line plain e =
-    let a = adds h t u s line e in
-    let r = added_is h t u a.row a.added in
-    ap (λ (v : Taken). v.gates) r.is ∙ row_same (record t { marks = r.marks }) a.row (ap is_gate a.section ∙ plain)
 
 section_fall : (h : Head) (s : Section) (next : ℕ → Taken → List (List ℕ) → Told) → is_gate s ≡ false → ((k : ℕ) (u : Taken) (ls : List (List ℕ)) → AllFall u.gates → Fall (next k u ls)) → (n k : ℕ) (t : Taken) (ls : List (List ℕ)) → AllFall t.gates → Fall (read_section h s n k t ls next)
 unfolding read_section

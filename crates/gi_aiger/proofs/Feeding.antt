@@ -25,6 +25,8 @@ use Rattle.gi_aiger.specs.Sections.{left_in}
 use Rattle.gi_aiger.specs.Taking.{with_row}
 use Rattle.gi_aiger.specs.Files.{Told, gate_stopped, read_symbols, read_gates, after_sections, read_sections}
 use Rattle.gi_aiger.proofs.Cutting.{whole_line, cut, lines_first, Later, gates_later, sections_later, Behind, symbols_behind, section_behind, symbols_gates}
+use Rattle.gi_aiger.proofs.Failing.{gate_of}
+use Rattle.gi_aiger.proofs.Limiting.{are_within}
 use Rattle.gi_aiger.proofs.Lining.{AreLines, IsPlain, plain_head, lines_are, joined_lines}
 use Rattle.gi_aiger.proofs.Pairing.{Owns, AreSmall, gates_there, gates_through}
 use Rattle.gi_aiger.proofs.Putting.{takes}
@@ -149,30 +151,9 @@ small_owned : (h : Head) (t : Taken) (gs : List AndGate) → 2 * (h.inputs + h.l
 small_owned h t [] lt owns = tt
 small_owned h t (g ∷ gs) lt owns = (omega (arith, lt, owns.0), small_owned h (with_row t (rows.Gate g)) gs (omega (arith, lt, length-append t.gates (g ∷ []))) owns.1)
 
-within_small : (h : Head) → is_within h ≡ true → (h.inputs ≤ most_items) × (h.latches ≤ most_items) × (h.gates ≤ most_items)
-within_small h t =
-    let a7 = both (nat_le h.max most_items && nat_le h.inputs most_items && nat_le h.latches most_items && nat_le h.outs most_items && nat_le h.gates most_items && nat_le h.bads most_items && nat_le h.cons most_items && nat_le h.justice most_items) (nat_le h.fair most_items) t in
-    let a6 = both (nat_le h.max most_items && nat_le h.inputs most_items && nat_le h.latches most_items && nat_le h.outs most_items && nat_le h.gates most_items && nat_le h.bads most_items && nat_le h.cons most_items) (nat_le h.justice most_items) a7.0 in
-    let a5 = both (nat_le h.max most_items && nat_le h.inputs most_items && nat_le h.latches most_items && nat_le h.outs most_items && nat_le h.gates most_items && nat_le h.bads most_items) (nat_le h.cons most_items) a6.0 in
-    let a4 = both (nat_le h.max most_items && nat_le h.inputs most_items && nat_le h.latches most_items && nat_le h.outs most_items && nat_le h.gates most_items) (nat_le h.bads most_items) a5.0 in
-    let a3 = both (nat_le h.max most_items && nat_le h.inputs most_items && nat_le h.latches most_items && nat_le h.outs most_items) (nat_le h.gates most_items) a4.0 in
-    let a2 = both (nat_le h.max most_items && nat_le h.inputs most_items && nat_le h.latches most_items) (nat_le h.outs most_items) a3.0 in
-    let a1 = both (nat_le h.max most_items && nat_le h.inputs most_items) (nat_le h.latches most_items) a2.0 in
-    (low h.inputs (both (nat_le h.max most_items) (nat_le h.inputs most_items) a1.0).1, low h.latches a1.1, low h.gates a3.1) where
-      both : (a b : Bool) → (a && b) ≡ true → (a ≡ true) × (b ≡ true)
-      both true b h = (refl, h)
-      both false b h = absurd cc
-
-      low : (n : ℕ) → nat_le n most_items ≡ true → n ≤ most_items
-      low n t = grind (arith, nat_tests, t)
-
 takes_gates : (t : Taken) (gs : List AndGate) → (takes Binary t (map rows.Gate gs)).gates ≡ t.gates ++ gs
 takes_gates t [] = sym (append-nil t.gates)
 takes_gates t (g ∷ gs) = takes_gates (with_row t (rows.Gate g)) gs ∙ append_assoc t.gates (g ∷ []) gs
-
-gate_of : Result Aig AigFault → ℕ
-gate_of (Ok v) = 0
-gate_of (Err f) = f.gate
 
 no_gate : (f : AigFault) → f.gate ≡ 0 → (t : Taken) (k : ℕ) (c : AigCode) → (gate_stopped t k c).read ≡ Err f → ⊥
 unfolding gate_of
@@ -193,8 +174,8 @@ gates_behind gates h small more v n k t ls lines ok = λ f p e.
     let c = left_in h t sections.Gate in
     let w = gates_through h (Err f) (no_gate f p.1) k c t (joined ls) e in
     let stands = takes Binary t (map rows.Gate w.gates) in
-    let low = within_small h small in
-    let are_small : AreSmall w.gates = smalls h t w.gates low.0 low.1 low.2 w.count w.owns in
+    let low = are_within h small in
+    let are_small : AreSmall w.gates = smalls h t w.gates low.inputs low.latches low.gates w.count w.owns in
     let through : (rest : List ℕ) → read_gates h k c t (w.front ++ rest) ≡ read_symbols h k stands [] (lines_of rest) = λ rest.
     ap (λ (m : ℕ). read_gates h k m t (w.front ++ rest)) (sym w.count) ∙ gates_there h (λ (told : Told). told ≡ read_symbols h k stands [] (lines_of rest)) k rest t w.gates w.front w.are w.owns are_small refl in
     let all : (read_gates h k c t (joined ls)).gates ≡ t.gates ++ w.gates =

@@ -1,5 +1,5 @@
 -- A header of numbers up to a cap says what it says of the numbers themselves.
-use Rattle.std.proofs.Common.{◌≡◌, ℕ, zero, suc, ◌+◌, ◌<◌, nat_le, List, [], ◌∷◌, length, map, get_or, Bool, true, false, ◌&&◌, not, cond, Option, Some, None, Result, Ok, Err, refl, ap, sym, ◌∙◌, arith}
+use Rattle.std.proofs.Common.{◌≡◌, ℕ, zero, suc, ◌+◌, ◌<◌, ◌≤◌, nat_le, List, [], ◌∷◌, length, map, get_or, Bool, true, false, ◌&&◌, not, cond, Option, Some, None, Result, Ok, Err, refl, ap, sym, ◌∙◌, arith}
 use Rattle.std.proofs.lemmas.Bool.Decides.{nat_tests}
 use Rattle.gi_aiger.specs.declared.fault.AigCode.{AigCode}
 use Rattle.gi_aiger.specs.declared.fault.AigCode.TheVariants.{Header, Limit}
@@ -8,6 +8,7 @@ use Rattle.gi_aiger.specs.declared.head.Head.{Head}
 use Rattle.gi_aiger.specs.Fields.{capped, Keeps, numbers_at}
 use Rattle.gi_aiger.specs.Header.{head_of, is_fitting, is_tried, is_wrong, is_within, judge_head, has_head, head_numbers, head_parts}
 use Rattle.gi_aiger.specs.Limits.{most_items}
+use Rattle.gi_aiger.proofs.Limiting.{both, at_most, are_within}
 
 -- a header's numbers, each up to the cap
 abbrev cap_head : Head → Head
@@ -27,8 +28,8 @@ cap_head h = record {
 cap_le : (n k : ℕ) → k < 4294967296 → nat_le (capped n) k ≡ nat_le n k
 cap_le n k small = grind (arith, nat_tests)
 
-cap_same : (n k : ℕ) → k < 4294967296 → nat_le n k ≡ true → capped n ≡ n
-cap_same n k small h = grind (arith, nat_tests)
+cap_same : (n k : ℕ) → k < 4294967296 → n ≤ k → capped n ≡ n
+cap_same n k small le = omega (arith, small, le)
 
 pub at_place : (ns : List ℕ) (k : ℕ) → get_or (map capped ns) k 0 ≡ capped (get_or ns k 0)
 at_place [] k = refl
@@ -45,10 +46,6 @@ tried_same h = rw (cap_le h.max 4294967295 (omega arith), cap_le h.inputs 429496
 within_same : (h : Head) → is_within (cap_head h) ≡ is_within h
 within_same h = rw (cap_le h.max most_items (omega arith), cap_le h.inputs most_items (omega arith), cap_le h.latches most_items (omega arith), cap_le h.outs most_items (omega arith), cap_le h.gates most_items (omega arith), cap_le h.bads most_items (omega arith), cap_le h.cons most_items (omega arith), cap_le h.justice most_items (omega arith), cap_le h.fair most_items (omega arith)) refl
 
-both : (a b : Bool) → (a && b) ≡ true → (a ≡ true) × (b ≡ true)
-both true b h = (refl, h)
-both false b h = absurd cc
-
 wrong_same : (h : Head) → is_wrong (cap_head h) ≡ is_wrong h
 wrong_same h = by_test (is_tried h) refl where
   by_test : (b : Bool) → is_tried h ≡ b → is_wrong (cap_head h) ≡ is_wrong h
@@ -58,32 +55,25 @@ wrong_same h = by_test (is_tried h) refl where
       let b = both (nat_le h.max 4294967295 && nat_le h.inputs 4294967295) (nat_le h.latches 4294967295) a.0 in
       let c = both (nat_le h.max 4294967295) (nat_le h.inputs 4294967295) b.0 in
       ap (λ (t : Bool). t && not (is_fitting h.form (capped h.max) (capped h.inputs + capped h.latches + capped h.gates))) (tried_same h)
-      ∙ ap (λ (n : ℕ). is_tried h && not (is_fitting h.form n (capped h.inputs + capped h.latches + capped h.gates))) (cap_same h.max 4294967295 (omega arith) c.0)
-      ∙ ap (λ (n : ℕ). is_tried h && not (is_fitting h.form h.max (n + capped h.latches + capped h.gates))) (cap_same h.inputs 4294967295 (omega arith) c.1)
-      ∙ ap (λ (n : ℕ). is_tried h && not (is_fitting h.form h.max (h.inputs + n + capped h.gates))) (cap_same h.latches 4294967295 (omega arith) b.1)
-      ∙ ap (λ (n : ℕ). is_tried h && not (is_fitting h.form h.max (h.inputs + h.latches + n))) (cap_same h.gates 4294967295 (omega arith) a.1)
+      ∙ ap (λ (n : ℕ). is_tried h && not (is_fitting h.form n (capped h.inputs + capped h.latches + capped h.gates))) (cap_same h.max 4294967295 (omega arith) (at_most h.max 4294967295 c.0))
+      ∙ ap (λ (n : ℕ). is_tried h && not (is_fitting h.form h.max (n + capped h.latches + capped h.gates))) (cap_same h.inputs 4294967295 (omega arith) (at_most h.inputs 4294967295 c.1))
+      ∙ ap (λ (n : ℕ). is_tried h && not (is_fitting h.form h.max (h.inputs + n + capped h.gates))) (cap_same h.latches 4294967295 (omega arith) (at_most h.latches 4294967295 b.1))
+      ∙ ap (λ (n : ℕ). is_tried h && not (is_fitting h.form h.max (h.inputs + h.latches + n))) (cap_same h.gates 4294967295 (omega arith) (at_most h.gates 4294967295 a.1))
 
 -- within the limits nothing is capped
 same_head : (h : Head) → is_within h ≡ true → cap_head h ≡ h
 same_head h t =
-    let a = both (nat_le h.max most_items && nat_le h.inputs most_items && nat_le h.latches most_items && nat_le h.outs most_items && nat_le h.gates most_items && nat_le h.bads most_items && nat_le h.cons most_items && nat_le h.justice most_items) (nat_le h.fair most_items) t in
-    let b = both (nat_le h.max most_items && nat_le h.inputs most_items && nat_le h.latches most_items && nat_le h.outs most_items && nat_le h.gates most_items && nat_le h.bads most_items && nat_le h.cons most_items) (nat_le h.justice most_items) a.0 in
-    let c = both (nat_le h.max most_items && nat_le h.inputs most_items && nat_le h.latches most_items && nat_le h.outs most_items && nat_le h.gates most_items && nat_le h.bads most_items) (nat_le h.cons most_items) b.0 in
-    let d = both (nat_le h.max most_items && nat_le h.inputs most_items && nat_le h.latches most_items && nat_le h.outs most_items && nat_le h.gates most_items) (nat_le h.bads most_items) c.0 in
-    let e = both (nat_le h.max most_items && nat_le h.inputs most_items && nat_le h.latches most_items && nat_le h.outs most_items) (nat_le h.gates most_items) d.0 in
-    let f = both (nat_le h.max most_items && nat_le h.inputs most_items && nat_le h.latches most_items) (nat_le h.outs most_items) e.0 in
-    let g = both (nat_le h.max most_items && nat_le h.inputs most_items) (nat_le h.latches most_items) f.0 in
-    let i = both (nat_le h.max most_items) (nat_le h.inputs most_items) g.0 in
+    let w = are_within h t in
     rw (
-      cap_same h.max most_items (omega arith) i.0,
-      cap_same h.inputs most_items (omega arith) i.1,
-      cap_same h.latches most_items (omega arith) g.1,
-      cap_same h.outs most_items (omega arith) f.1,
-      cap_same h.gates most_items (omega arith) e.1,
-      cap_same h.bads most_items (omega arith) d.1,
-      cap_same h.cons most_items (omega arith) c.1,
-      cap_same h.justice most_items (omega arith) b.1,
-      cap_same h.fair most_items (omega arith) a.1,
+      cap_same h.max most_items (omega arith) w.max,
+      cap_same h.inputs most_items (omega arith) w.inputs,
+      cap_same h.latches most_items (omega arith) w.latches,
+      cap_same h.outs most_items (omega arith) w.outs,
+      cap_same h.gates most_items (omega arith) w.gates,
+      cap_same h.bads most_items (omega arith) w.bads,
+      cap_same h.cons most_items (omega arith) w.cons,
+      cap_same h.justice most_items (omega arith) w.justice,
+      cap_same h.fair most_items (omega arith) w.fair,
     ) refl
 
 abbrev limits : Head → Bool → Result Head AigCode

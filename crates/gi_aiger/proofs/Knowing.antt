@@ -180,39 +180,30 @@ unknown before r later once = by_own (defined_by r) refl where
       let all : AreOnce (defined_variables before ++ w ∷ defined_variables later) = subst (λ (o : Option ℕ). AreOnce (defined_variables before ++ (variables_by o ++ defined_variables later))) is (subst AreOnce (variables-append before (r ∷ later)) once) in
       not_defined (mark_at (marks_of before []) w) (λ d. once_apart (defined_variables before) w (defined_variables later) all (only_defined before w d))
 
--- how many lines define a variable
+-- how much a row counts, where an input, a latch and a gate count this, and a size counts itself or nothing
+abbrev pub row_in : ℕ → ℕ → ℕ → Bool → Row → ℕ
+row_in i l g z (rows.Input x) = i
+row_in i l g z (rows.Latch x) = l
+row_in i l g z (rows.Out x) = 0
+row_in i l g z (rows.Bad x) = 0
+row_in i l g z (rows.Con x) = 0
+row_in i l g z (rows.Size n) = cond z n 0
+row_in i l g z (rows.Justice x) = 0
+row_in i l g z (rows.Fair x) = 0
+row_in i l g z (rows.Gate x) = g
+
+-- how many inputs, latches and gates a row is, and how many justice literals it announces
+abbrev pub input_in : Row → ℕ
+input_in r = row_in 1 0 0 false r
+
 abbrev pub latch_in : Row → ℕ
-latch_in (rows.Input l) = 0
-latch_in (rows.Latch l) = 1
-latch_in (rows.Out l) = 0
-latch_in (rows.Bad l) = 0
-latch_in (rows.Con l) = 0
-latch_in (rows.Size n) = 0
-latch_in (rows.Justice l) = 0
-latch_in (rows.Fair l) = 0
-latch_in (rows.Gate g) = 0
+latch_in r = row_in 0 1 0 false r
 
 abbrev pub gate_in : Row → ℕ
-gate_in (rows.Input l) = 0
-gate_in (rows.Latch l) = 0
-gate_in (rows.Out l) = 0
-gate_in (rows.Bad l) = 0
-gate_in (rows.Con l) = 0
-gate_in (rows.Size n) = 0
-gate_in (rows.Justice l) = 0
-gate_in (rows.Fair l) = 0
-gate_in (rows.Gate g) = 1
+gate_in r = row_in 0 0 1 false r
 
-abbrev pub input_in : Row → ℕ
-input_in (rows.Input l) = 1
-input_in (rows.Latch l) = 0
-input_in (rows.Out l) = 0
-input_in (rows.Bad l) = 0
-input_in (rows.Con l) = 0
-input_in (rows.Size n) = 0
-input_in (rows.Justice l) = 0
-input_in (rows.Fair l) = 0
-input_in (rows.Gate g) = 0
+abbrev pub size_in : Row → ℕ
+size_in r = row_in 0 0 0 true r
 
 defines_one : (r : Row) → length (variables_by (defined_by r)) ≡ input_in r + latch_in r + gate_in r
 defines_one (rows.Input l) = refl

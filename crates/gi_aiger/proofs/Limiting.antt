@@ -19,12 +19,15 @@ pub record AreWithin (h : Head) : Type 0 where
   pub justice : h.justice ≤ most_items
   pub fair : h.fair ≤ most_items
 
-both : (a b : Bool) → (a && b) ≡ true → (a ≡ true) × (b ≡ true)
+pub both : (a b : Bool) → (a && b) ≡ true → (a ≡ true) × (b ≡ true)
 both true b h = (refl, h)
 both false b h = absurd cc
 
+pub at_most : (n k : ℕ) → nat_le n k ≡ true → n ≤ k
+at_most n k t = grind (arith, nat_tests, t)
+
 low : (n : ℕ) → nat_le n most_items ≡ true → n ≤ most_items
-low n t = grind (arith, nat_tests, t)
+low n t = at_most n most_items t
 
 pub are_within : (h : Head) → is_within h ≡ true → AreWithin h
 are_within h t =

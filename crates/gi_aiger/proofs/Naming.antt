@@ -1,18 +1,21 @@
 -- The flags of the symbols so far.
-use Rattle.std.proofs.Common.{◌≡◌, ℕ, ◌+◌, ◌*◌, ◌-◌, ◌<◌, ◌≤◌, List, [], ◌∷◌, ◌++◌, length, get_or, set, Bool, true, false, ◌&&◌, ◌||◌, inl, inr, refl, ap, sym, ◌∙◌, arith}
+use Rattle.std.proofs.Common.{◌≡◌, ◌≢◌, ℕ, ◌+◌, ◌*◌, ◌-◌, ◌<◌, ◌≤◌, List, [], ◌∷◌, ◌++◌, Bool, true, false, ◌&&◌, ◌||◌, inl, inr, refl, ap, sym, ◌∙◌, arith}
 use Rattle.std.specs.Prelude.{◌==◌}
-use Rattle.std.proofs.lemmas.List.{get_or-set_same, get_or-set_other}
 use Rattle.std.proofs.lemmas.Bool.Decides.{eqb_tells}
 use Rattle.gi_aiger.specs.declared.aig.Symbol.{Symbol}
 use Rattle.gi_aiger.specs.Named.{is_named}
 
 -- each flag tells whether its kind and place are there
-abbrev pub Tell : List Bool → List Symbol → Type 0
-Tell seen symbols = (kind place : ℕ) → 98 ≤ kind → kind < 114 → get_or seen (16 * place + (kind - 98)) false ≡ is_named symbols kind place
+abbrev pub Tell : (ℕ → Bool) → List Symbol → Type 0
+Tell seen symbols = (kind place : ℕ) → 98 ≤ kind → kind < 114 → seen (16 * place + (kind - 98)) ≡ is_named symbols kind place
 
-pub none_named : Tell [] []
+pub none_named : (seen : ℕ → Bool) → ((i : ℕ) → seen i ≡ false) → Tell seen []
 unfolding is_named
-none_named kind place a b = refl
+none_named seen none kind place a b = none (16 * place + (kind - 98))
+
+-- the same flags tell the same
+pub same_named : (seen more : ℕ → Bool) (symbols : List Symbol) → ((i : ℕ) → more i ≡ seen i) → Tell seen symbols → Tell more symbols
+same_named seen more symbols same told kind place a b = same (16 * place + (kind - 98)) ∙ told kind place a b
 
 or_false : (b : Bool) → (b || false) ≡ b
 or_false true = refl
@@ -39,14 +42,14 @@ same_and a b c d e f = rw (e, f) both where
 other_and : (a b c d : ℕ) → (a ≡ c → b ≡ d → ⊥) → ((a == c) && (b == d)) ≡ false
 other_and a b c d h = elim (eqb_tells a c) [ inl t ↦ elim (eqb_tells b d) [ inl u ↦ absurd (h t.1 u.1) | inr u ↦ rw (t.0, u.0) refl ] | inr f ↦ rw f.0 refl ]
 
-pub push_tells : (seen more : List Bool) (symbols : List Symbol) (s : Symbol) (flag : ℕ) → Tell seen symbols → ((i : ℕ) → get_or more i false ≡ get_or seen i false) → flag < length more → 98 ≤ s.kind → s.kind < 114 → flag ≡ 16 * s.place + (s.kind - 98) → Tell (set more flag true) (symbols ++ s ∷ [])
-push_tells seen more symbols s flag told same room low high is kind place a b = elim (eqb_tells (16 * place + (kind - 98)) flag) [
+pub push_tells : (seen more : ℕ → Bool) (symbols : List Symbol) (s : Symbol) (flag : ℕ) → Tell seen symbols → more flag ≡ true → ((i : ℕ) → i ≢ flag → more i ≡ seen i) → 98 ≤ s.kind → s.kind < 114 → flag ≡ 16 * s.place + (s.kind - 98) → Tell more (symbols ++ s ∷ [])
+push_tells seen more symbols s flag told set same low high is kind place a b = elim (eqb_tells (16 * place + (kind - 98)) flag) [
   | inl t ↦
       let kinds : s.kind ≡ kind = omega (arith, t.1, is, a, b, low, high) in
       let places : s.place ≡ place = omega (arith, t.1, is, a, b, low, high) in
-      ap (λ (i : ℕ). get_or (set more flag true) i false) t.1 ∙ get_or-set_same more flag true false room
+      ap more t.1 ∙ set
       ∙ sym (named-push symbols s kind place ∙ ap (λ (x : Bool). is_named symbols kind place || x) (same_and s.kind s.place kind place kinds places) ∙ or_true (is_named symbols kind place))
   | inr f ↦
-      get_or-set_other more flag (16 * place + (kind - 98)) true false f.1 ∙ same (16 * place + (kind - 98)) ∙ told kind place a b
+      same (16 * place + (kind - 98)) f.1 ∙ told kind place a b
       ∙ sym (named-push symbols s kind place ∙ ap (λ (x : Bool). is_named symbols kind place || x) (other_and s.kind s.place kind place (λ k p. f.1 (ap (λ (i : ℕ). 16 * place + (i - 98)) (sym k) ∙ ap (λ (i : ℕ). 16 * i + (s.kind - 98)) (sym p) ∙ sym is))) ∙ or_false (is_named symbols kind place))
 ]

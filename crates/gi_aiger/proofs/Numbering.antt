@@ -1,7 +1,9 @@
 -- Literals that are numbered from one variable on.
-use Rattle.std.proofs.Common.{◌≡◌, ℕ, zero, suc, ◌+◌, ◌*◌, List, [], ◌∷◌, ◌++◌, length, refl, ap, sym, ◌∙◌, subst, arith, length-append, append_assoc}
+use Rattle.std.proofs.Common.{◌≡◌, ℕ, zero, suc, ◌+◌, ◌*◌, ◌-◌, ◌<◌, ◌≤◌, List, [], ◌∷◌, ◌++◌, length, ◌⊎◌, inl, inr, Some, refl, ap, sym, ◌∙◌, subst, arith, length-append, append_assoc}
+use Rattle.std.specs.List.{slice_get}
+use Rattle.std.proofs.lemmas.Bool.{cases_lt}
 use Rattle.std.proofs.lemmas.List.{append-nil}
-use Rattle.gi_aiger.specs.Files.{evens}
+use Rattle.gi_aiger.specs.Evens.{evens}
 
 -- the literals of the variables behind k
 abbrev pub AreFrom : ℕ → List ℕ → Type 0
@@ -44,3 +46,37 @@ evens_on k (x ∷ xs) a =
 pub from_evens : (xs : List ℕ) → AreFrom 0 xs → xs ≡ evens (length xs)
 unfolding evens
 from_evens xs a = let e : 0 + length xs ≡ length xs = omega arith in evens_on 0 xs a ∙ ap evens e
+
+-- the literal at a place, with others behind them
+pub evens_past : (n k : ℕ) (xs : List ℕ) → n ≤ k → slice_get (evens n ++ xs) k ≡ slice_get xs (k - n)
+unfolding evens
+evens_past zero k xs ge = let e : k ≡ k - 0 = omega arith in ap (slice_get xs) e
+evens_past (suc n) k xs ge =
+    let e : k - n ≡ suc (k - suc n) = omega (arith, ge) in
+    ap (λ (ys : List ℕ). slice_get ys k) (append_assoc (evens n) (2 * (n + 1) ∷ []) xs) ∙ evens_past n k (2 * (n + 1) ∷ xs) (omega (arith, ge)) ∙ ap (slice_get (2 * (n + 1) ∷ xs)) e
+
+pub evens_first : (n k : ℕ) (xs : List ℕ) → k < n → slice_get (evens n ++ xs) k ≡ Some (2 * (k + 1))
+unfolding evens
+evens_first zero k xs lt = absurd (omega (arith, lt))
+evens_first (suc n) k xs lt =
+    let rest : slice_get (evens n ++ 2 * (n + 1) ∷ xs) k ≡ Some (2 * (k + 1)) = elim (cases_lt k n) [
+      | inl below ↦ evens_first n k (2 * (n + 1) ∷ xs) below
+      | inr ge ↦ (
+          let e : k - n ≡ 0 = omega (arith, lt, ge) in
+          let same : n ≡ k = omega (arith, lt, ge) in
+          evens_past n k (2 * (n + 1) ∷ xs) ge ∙ ap (slice_get (2 * (n + 1) ∷ xs)) e ∙ ap (λ (i : ℕ). Some (2 * (i + 1))) same)
+    ] in
+    ap (λ (ys : List ℕ). slice_get ys k) (append_assoc (evens n) (2 * (n + 1) ∷ []) xs) ∙ rest
+
+pub evens_alone : (n : ℕ) → evens n ++ [] ≡ evens n
+evens_alone n = append-nil (evens n)
+
+pub evens_none : (xs : List ℕ) → evens 0 ++ xs ≡ xs
+unfolding evens
+evens_none xs = refl
+
+pub evens_push : (n x : ℕ) (xs : List ℕ) → evens n ++ (xs ++ x ∷ []) ≡ (evens n ++ xs) ++ x ∷ []
+evens_push n x xs = sym (append_assoc (evens n) xs (x ∷ []))
+
+pub evens_count : (n : ℕ) (xs : List ℕ) → length (evens n ++ xs) ≡ n + length xs
+evens_count n xs = omega (arith, length-append (evens n) xs, evens_length n)

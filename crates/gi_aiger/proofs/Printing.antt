@@ -32,7 +32,8 @@ use Rattle.gi_aiger.specs.Good.{IsTitle, IsGood}
 use Rattle.gi_aiger.proofs.Lining.{IsPlain, bare_whole}
 use Rattle.gi_aiger.proofs.Limiting.{AreWithin, are_within, places_low}
 use Rattle.gi_aiger.proofs.Spelling.{InRange}
-use Rattle.gi_aiger.proofs.Sounding.{flat_flat, flat_same, size_in, each_join}
+use Rattle.gi_aiger.proofs.Knowing.{size_in}
+use Rattle.gi_aiger.proofs.Sounding.{flat_flat, flat_same, each_join}
 use Rattle.gi_aiger.proofs.Accepting.{sound_range}
 use Rattle.gi_aiger.proofs.Wording.{AreShort, spaced, fields_spaced, numbers_spaced, spaced_plain, row_line, IsShortRow, rows_say, EndsLine, row_ends, lines_joined, comment_rest, title_ends, titles_say}
 use Rattle.gi_aiger.specs.Limits.{most_items}

@@ -11,8 +11,6 @@ use Rattle.gi_aiger.specs.declared.aig.Aig.{Aig}
 use Rattle.gi_aiger.specs.declared.aig.AndGate.{AndGate}
 use Rattle.gi_aiger.specs.declared.aig.Latch.{Latch}
 use Rattle.gi_aiger.specs.declared.aig.Symbol.{Symbol}
-use Rattle.gi_aiger.specs.declared.fault.AigCode.{AigCode}
-use Rattle.gi_aiger.specs.declared.fault.AigCode.TheVariants.{Header, Limit}
 use Rattle.gi_aiger.specs.declared.head.Form.{Form}
 use Rattle.gi_aiger.specs.declared.head.Form.TheVariants.{Binary}
 use Rattle.gi_aiger.specs.declared.head.Head.{Head}
@@ -20,16 +18,17 @@ use Rattle.gi_aiger.specs.declared.row.Section.TheVariants as sections
 use Rattle.gi_aiger.specs.declared.row.Row.{Row}
 use Rattle.gi_aiger.specs.declared.row.Row.TheVariants as rows
 use Rattle.gi_aiger.specs.declared.taken.Taken.{Taken}
-use Rattle.gi_aiger.specs.Fields.{fields_of, numbers_at}
-use Rattle.gi_aiger.specs.Header.{form_of, head_of, is_tried, is_fitting, is_wrong, is_within, judge_head, has_head, head_parts, head_fields, header_of}
+use Rattle.gi_aiger.specs.Header.{is_tried, is_fitting, header_of}
 use Rattle.gi_aiger.specs.Levels.{HasLevels}
 use Rattle.gi_aiger.specs.Lines.{lines_of, bare, joined}
 use Rattle.gi_aiger.specs.Rows.{literals_in, uses_of, defined_variables}
 use Rattle.gi_aiger.specs.Sections.{sections_of, left_in}
 use Rattle.gi_aiger.specs.Taking.{with_row, own_latch, left_out}
-use Rattle.gi_aiger.specs.Files.{Told, shares, aig_of, begin, evens, read_sections}
+use Rattle.gi_aiger.specs.Evens.{evens}
+use Rattle.gi_aiger.specs.Files.{Told, shares, aig_of, begin, read_sections}
 use Rattle.gi_aiger.specs.Deltas.{AreGates}
 use Rattle.gi_aiger.specs.Relation.{IsDefining, IsSound, IsBinary, AllSay, AllName, IsRest, AreOnce, head_of_aig, rows_at, rows_of, defining_literals, leaves_out}
+use Rattle.gi_aiger.proofs.Fitting.{header_read}
 use Rattle.gi_aiger.proofs.Limiting.{AreWithin, are_within}
 use Rattle.gi_aiger.proofs.Saying.{Right}
 use Rattle.gi_aiger.proofs.Putting.{takes, after, section_takes, Lists, rows_by, state_by, state_takes, Counts}
@@ -47,38 +46,9 @@ abbrev bin : Head → Head
 bin h = record h { form = Binary }
 
 -- a header that is read fits
-abbrev Fit : Result Head AigCode → Type 0
-Fit (Ok h) = (is_within h ≡ true) × (is_wrong h ≡ false)
-Fit (Err c) = Unit {0}
-
-judge_fit : (h : Head) → Fit (judge_head h)
-judge_fit h = by_wrong (is_wrong h) refl where
-  by_within : (b : Bool) → is_wrong h ≡ false → is_within h ≡ b → Fit (cond b (Ok h) (Err Limit))
-  by_within true w e = (e, w)
-  by_within false w e = tt
-
-  by_wrong : (b : Bool) → is_wrong h ≡ b → Fit (cond b (Err Header) (cond (is_within h) (Ok h) (Err Limit)))
-  by_wrong true w = tt
-  by_wrong false w = by_within (is_within h) w refl
-
-parts_fit : (f : Option Form) (read : Option (List ℕ)) → Fit (head_parts f read)
-parts_fit (Some form) (Some ns) = by_test (has_head ns) where
-  by_test : (b : Bool) → Fit (cond b (judge_head (head_of form ns)) (Err Header))
-  by_test true = judge_fit (head_of form ns)
-  by_test false = tt
-parts_fit (Some form) None = tt
-parts_fit None read = tt
-
-header_fit : (line : List ℕ) → Fit (header_of line)
-unfolding header_of
-header_fit line = by_fields (fields_of line) where
-  by_fields : (fs : List (List ℕ)) → Fit (head_fields fs)
-  by_fields [] = tt
-  by_fields (w ∷ fs) = parts_fit (form_of w) (numbers_at fs)
-
 pub header_fits : (line : List ℕ) (h : Head) → header_of line ≡ Ok h → AreWithin h × (is_fitting h.form h.max (h.inputs + h.latches + h.gates) ≡ true)
 header_fits line h e =
-    let f : Fit (Ok h) = subst Fit e (header_fit line) in
+    let f = header_read line h e in
     let w = are_within h f.0 in
     (w, fitting (is_fitting h.form h.max (h.inputs + h.latches + h.gates)) (is_tried h) (tried h w) f.1) where
       small : (n : ℕ) → n ≤ most_items → nat_le n 4294967295 ≡ true

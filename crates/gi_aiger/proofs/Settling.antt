@@ -24,8 +24,7 @@ use Rattle.gi_aiger.specs.Groups.{difference_of, greater_at, lesser_at}
 use Rattle.gi_aiger.specs.Named.{add_symbol}
 use Rattle.gi_aiger.specs.Files.{Told, gates_line, own_gate, with_gate, begin, read_file}
 use Rattle.gi_aiger.specs.Machine.{start, head_ends, row_ends, symbol_ends, comment_begins, is_c, is_lenient, gates_or_names, phase_after, phase_of, phase_from, greater_ends, lesser_ends, difference_ends, line_by_phase, line_ends, take_byte, answer_of, answer_now, answer, run}
-use Rattle.gi_aiger.proofs.Adding.{adds, added_is}
-use Rattle.gi_aiger.proofs.Falling.{is_gate, line_same}
+use Rattle.gi_aiger.proofs.Adding.{adds, added_is, is_gate, line_same}
 use Rattle.gi_aiger.proofs.Following.{reads_all}
 use Rattle.gi_aiger.proofs.Growing.{Grown, Opens, byte_goes, run_goes, told_gates}
 use Rattle.gi_aiger.proofs.Runs.{at, run-append, run-cons, run-nil, last_is}

@@ -1,5 +1,5 @@
 -- The rows of a value.
-use Rattle.std.proofs.Common.{◌≡◌, ℕ, ◌+◌, ◌*◌, ◌/◌, ◌≤◌, List, [], ◌∷◌, ◌++◌, length, map, refl, ap, sym, ◌∙◌, subst, arith, length-append, append_assoc}
+use Rattle.std.proofs.Common.{◌≡◌, ℕ, ◌+◌, ◌*◌, ◌/◌, ◌≤◌, List, [], ◌∷◌, ◌++◌, length, map, Bool, true, false, cond, refl, ap, sym, ◌∙◌, subst, arith, length-append, append_assoc}
 use Rattle.std.specs.Prelude.{sum, sum_by}
 use Rattle.std.specs.List.{flat_map, AllByRecursion}
 use Rattle.std.proofs.lemmas.Grind.{flat_map-append}
@@ -22,7 +22,7 @@ use Rattle.gi_aiger.proofs.Takes.{marks_stay}
 use Rattle.gi_aiger.proofs.Spelling.{InRange}
 use Rattle.gi_aiger.proofs.Saying.{step}
 use Rattle.gi_aiger.proofs.Putting.{takes}
-use Rattle.gi_aiger.proofs.Knowing.{latch_in, gate_in, input_in}
+use Rattle.gi_aiger.proofs.Knowing.{row_in, input_in, latch_in, gate_in, size_in}
 
 -- lists
 pub flat_flat : {A B C : Type 0} (g : B → List C) (f : A → List B) (xs : List A) → flat_map g (flat_map f xs) ≡ flat_map (λ x. flat_map g (f x)) xs
@@ -45,19 +45,11 @@ flat_self : {B C : Type 0} (g : B → List C) (f : C → B) → ((a : C) → g (
 flat_self g f e [] = refl
 flat_self g f e (x ∷ xs) = ap (λ ys. ys ++ flat_map g (map f xs)) (e x) ∙ ap (λ ys. x ∷ ys) (flat_self g f e xs)
 
-pub sum_flat : {A B : Type 0} (g : B → ℕ) (f : A → List B) (xs : List A) → sum_by g (flat_map f xs) ≡ sum_by (λ x. sum_by g (f x)) xs
-sum_flat g f [] = refl
-sum_flat g f (x ∷ xs) = omega (arith, sum_by-append g (f x) (flat_map f xs), sum_by-cons (λ x. sum_by g (f x)) x xs, sum_flat g f xs)
+pub sum_same : {A B : Type 0} (g : B → ℕ) (f : A → B) (n : ℕ) → ((a : A) → g (f a) ≡ n) → (xs : List A) → sum_by g (map f xs) ≡ n * length xs
+sum_same g f n e [] = omega arith
+sum_same g f n e (x ∷ xs) = omega (arith, sum_by-cons g (f x) (map f xs), e x, sum_same g f n e xs)
 
-pub sum_none : {A B : Type 0} (g : B → ℕ) (f : A → B) → ((a : A) → g (f a) ≡ 0) → (xs : List A) → sum_by g (map f xs) ≡ 0
-sum_none g f e [] = refl
-sum_none g f e (x ∷ xs) = omega (arith, sum_by-cons g (f x) (map f xs), e x, sum_none g f e xs)
-
-pub sum_ones : {A B : Type 0} (g : B → ℕ) (f : A → B) → ((a : A) → g (f a) ≡ 1) → (xs : List A) → sum_by g (map f xs) ≡ length xs
-sum_ones g f e [] = refl
-sum_ones g f e (x ∷ xs) = omega (arith, sum_by-cons g (f x) (map f xs), e x, sum_ones g f e xs)
-
--- the literals that a row defines, and the justice literals that it announces
+-- the literals that a row defines
 abbrev pub defining_in : Row → List ℕ
 defining_in (rows.Input l) = l ∷ []
 defining_in (rows.Latch l) = l.lit ∷ []
@@ -68,17 +60,6 @@ defining_in (rows.Size n) = []
 defining_in (rows.Justice l) = []
 defining_in (rows.Fair l) = []
 defining_in (rows.Gate g) = g.lhs ∷ []
-
-abbrev pub size_in : Row → ℕ
-size_in (rows.Input l) = 0
-size_in (rows.Latch l) = 0
-size_in (rows.Out l) = 0
-size_in (rows.Bad l) = 0
-size_in (rows.Con l) = 0
-size_in (rows.Size n) = n
-size_in (rows.Justice l) = 0
-size_in (rows.Fair l) = 0
-size_in (rows.Gate g) = 0
 
 abbrev pub defining_at : Aig → Section → List ℕ
 defining_at v sections.Input = v.inputs
@@ -122,136 +103,90 @@ pub variables_are : (rs : List Row) → defined_variables rs ≡ map (λ l. l / 
 variables_are [] = refl
 variables_are (r ∷ rs) = ap (λ (xs : List ℕ). xs ++ defined_variables rs) (one_variable r) ∙ ap (λ (xs : List ℕ). map (λ l. l / 2) (defining_in r) ++ xs) (variables_are rs) ∙ sym (map-append (λ l. l / 2) (defining_in r) (flat_map defining_in rs))
 
--- counts over all rows
-pub latches_all : (v : Aig) → sum_by latch_in (rows_of v) ≡ length v.latches
-latches_all v = omega (
-  arith,
-  sum_flat latch_in (rows_at v) (sections_of Ascii),
-  sum_none latch_in rows.Input (λ l. refl) v.inputs,
-  sum_ones latch_in rows.Latch (λ l. refl) v.latches,
-  sum_none latch_in rows.Out (λ l. refl) v.outs,
-  sum_none latch_in rows.Bad (λ l. refl) v.bads,
-  sum_none latch_in rows.Con (λ l. refl) v.cons,
-  sum_none latch_in (λ p. rows.Size (length p)) (λ p. refl) v.justice,
-  sum_none latch_in rows.Justice (λ l. refl) (flat_map (λ p. p) v.justice),
-  sum_none latch_in rows.Fair (λ l. refl) v.fair,
-  sum_none latch_in rows.Gate (λ g. refl) v.gates,
-)
-
-pub gates_all : (v : Aig) → sum_by gate_in (rows_of v) ≡ length v.gates
-gates_all v = omega (
-  arith,
-  sum_flat gate_in (rows_at v) (sections_of Ascii),
-  sum_none gate_in rows.Input (λ l. refl) v.inputs,
-  sum_none gate_in rows.Latch (λ l. refl) v.latches,
-  sum_none gate_in rows.Out (λ l. refl) v.outs,
-  sum_none gate_in rows.Bad (λ l. refl) v.bads,
-  sum_none gate_in rows.Con (λ l. refl) v.cons,
-  sum_none gate_in (λ p. rows.Size (length p)) (λ p. refl) v.justice,
-  sum_none gate_in rows.Justice (λ l. refl) (flat_map (λ p. p) v.justice),
-  sum_none gate_in rows.Fair (λ l. refl) v.fair,
-  sum_ones gate_in rows.Gate (λ g. refl) v.gates,
-)
-
-sum_sizes : (js : List (List ℕ)) → sum_by size_in (map (λ p. rows.Size (length p)) js) ≡ length (flat_map (λ p. p) js)
-sum_sizes [] = refl
-sum_sizes (j ∷ js) = omega (arith, sum_by-cons size_in (rows.Size (length j)) (map (λ p. rows.Size (length p)) js), sum_sizes js, length-append j (flat_map (λ p. p) js))
+-- counts over rows
+sum_sizes : (i l g : ℕ) (z : Bool) (js : List (List ℕ)) → sum_by (row_in i l g z) (map (λ p. rows.Size (length p)) js) ≡ cond z (length (flat_map (λ p. p) js)) 0
+sum_sizes i l g true [] = refl
+sum_sizes i l g false [] = refl
+sum_sizes i l g true (j ∷ js) = omega (arith, sum_by-cons (row_in i l g true) (rows.Size (length j)) (map (λ p. rows.Size (length p)) js), sum_sizes i l g true js, length-append j (flat_map (λ p. p) js))
+sum_sizes i l g false (j ∷ js) = omega (arith, sum_by-cons (row_in i l g false) (rows.Size (length j)) (map (λ p. rows.Size (length p)) js), sum_sizes i l g false js)
 
 pub sum_lengths : (js : List (List ℕ)) → sum (map length js) ≡ length (flat_map (λ p. p) js)
 sum_lengths [] = refl
 sum_lengths (j ∷ js) = omega (arith, sum_by-cons (λ x. x) (length j) (map length js), sum_lengths js, length-append j (flat_map (λ p. p) js))
 
+abbrev pub counts : ℕ → ℕ → ℕ → Bool → Aig → Section → ℕ
+counts i l g z v sections.Input = i * length v.inputs
+counts i l g z v sections.Latch = l * length v.latches
+counts i l g z v sections.Out = 0
+counts i l g z v sections.Bad = 0
+counts i l g z v sections.Con = 0
+counts i l g z v sections.Size = cond z (length (flat_map (λ p. p) v.justice)) 0
+counts i l g z v sections.Justice = 0
+counts i l g z v sections.Fair = 0
+counts i l g z v sections.Gate = g * length v.gates
+
+section_counts : (i l g : ℕ) (z : Bool) (v : Aig) (s : Section) → sum_by (row_in i l g z) (rows_at v s) ≡ counts i l g z v s
+section_counts i l g z v sections.Input = sum_same (row_in i l g z) rows.Input i (λ x. refl) v.inputs
+section_counts i l g z v sections.Latch = sum_same (row_in i l g z) rows.Latch l (λ x. refl) v.latches
+section_counts i l g z v sections.Out = omega (arith, sum_same (row_in i l g z) rows.Out 0 (λ x. refl) v.outs)
+section_counts i l g z v sections.Bad = omega (arith, sum_same (row_in i l g z) rows.Bad 0 (λ x. refl) v.bads)
+section_counts i l g z v sections.Con = omega (arith, sum_same (row_in i l g z) rows.Con 0 (λ x. refl) v.cons)
+section_counts i l g z v sections.Size = sum_sizes i l g z v.justice
+section_counts i l g z v sections.Justice = omega (arith, sum_same (row_in i l g z) rows.Justice 0 (λ x. refl) (flat_map (λ p. p) v.justice))
+section_counts i l g z v sections.Fair = omega (arith, sum_same (row_in i l g z) rows.Fair 0 (λ x. refl) v.fair)
+section_counts i l g z v sections.Gate = sum_same (row_in i l g z) rows.Gate g (λ x. refl) v.gates
+
+pub rows_count : (i l g : ℕ) (z : Bool) (v : Aig) (ss : List Section) → sum_by (row_in i l g z) (flat_map (rows_at v) ss) ≡ sum_by (counts i l g z v) ss
+rows_count i l g z v [] = refl
+rows_count i l g z v (s ∷ ss) = omega (arith, sum_by-append (row_in i l g z) (rows_at v s) (flat_map (rows_at v) ss), sum_by-cons (counts i l g z v) s ss, section_counts i l g z v s, rows_count i l g z v ss)
+
+pub latches_all : (v : Aig) → sum_by latch_in (rows_of v) ≡ length v.latches
+latches_all v = rows_count 0 1 0 false v (sections_of Ascii) ∙ (let s : sum_by (counts 0 1 0 false v) (sections_of Ascii) ≡ length v.latches = omega arith in s)
+
+pub gates_all : (v : Aig) → sum_by gate_in (rows_of v) ≡ length v.gates
+gates_all v = rows_count 0 0 1 false v (sections_of Ascii) ∙ (let s : sum_by (counts 0 0 1 false v) (sections_of Ascii) ≡ length v.gates = omega arith in s)
+
 pub sizes_all : (v : Aig) → sum_by size_in (rows_of v) ≡ length (flat_map (λ p. p) v.justice)
-sizes_all v = omega (
-  arith,
-  sum_flat size_in (rows_at v) (sections_of Ascii),
-  sum_none size_in rows.Input (λ l. refl) v.inputs,
-  sum_none size_in rows.Latch (λ l. refl) v.latches,
-  sum_none size_in rows.Out (λ l. refl) v.outs,
-  sum_none size_in rows.Bad (λ l. refl) v.bads,
-  sum_none size_in rows.Con (λ l. refl) v.cons,
-  sum_sizes v.justice,
-  sum_none size_in rows.Justice (λ l. refl) (flat_map (λ p. p) v.justice),
-  sum_none size_in rows.Fair (λ l. refl) v.fair,
-  sum_none size_in rows.Gate (λ g. refl) v.gates,
-)
+sizes_all v = rows_count 0 0 0 true v (sections_of Ascii) ∙ (let s : sum_by (counts 0 0 0 true v) (sections_of Ascii) ≡ length (flat_map (λ p. p) v.justice) = omega arith in s)
 
 -- behind the inputs
 abbrev pub others_of : Aig → List Row
 others_of v = flat_map (rows_at v) (behind Ascii sections.Input)
 
 pub others_plain : (v : Aig) → sum_by input_in (others_of v) ≡ 0
-others_plain v = omega (
-  arith,
-  sum_flat input_in (rows_at v) (behind Ascii sections.Input),
-  sum_none input_in rows.Latch (λ l. refl) v.latches,
-  sum_none input_in rows.Out (λ l. refl) v.outs,
-  sum_none input_in rows.Bad (λ l. refl) v.bads,
-  sum_none input_in rows.Con (λ l. refl) v.cons,
-  sum_none input_in (λ p. rows.Size (length p)) (λ p. refl) v.justice,
-  sum_none input_in rows.Justice (λ l. refl) (flat_map (λ p. p) v.justice),
-  sum_none input_in rows.Fair (λ l. refl) v.fair,
-  sum_none input_in rows.Gate (λ g. refl) v.gates,
-)
+others_plain v = rows_count 1 0 0 false v (behind Ascii sections.Input) ∙ (let s : sum_by (counts 1 0 0 false v) (behind Ascii sections.Input) ≡ 0 = omega arith in s)
 
 -- what rows add to lists
 measured : (form : Form) (f : Taken → ℕ) (g : Row → ℕ) → ((t : Taken) (r : Row) → f (step form t r) ≡ f t + g r) → (t : Taken) (rs : List Row) → f (takes form t rs) ≡ f t + sum_by g rs
 measured form f g e t [] = omega arith
 measured form f g e t (r ∷ rs) = omega (arith, measured form f g e (step form t r) rs, e t r, sum_by-cons g r rs)
 
-latch_row : (t : Taken) (r : Row) → length (with_row t r).latches ≡ length t.latches + latch_in r
-latch_row t (rows.Input l) = omega arith
-latch_row t (rows.Latch l) = length-append t.latches (l ∷ [])
-latch_row t (rows.Out l) = omega arith
-latch_row t (rows.Bad l) = omega arith
-latch_row t (rows.Con l) = omega arith
-latch_row t (rows.Size n) = omega arith
-latch_row t (rows.Justice l) = omega arith
-latch_row t (rows.Fair l) = omega arith
-latch_row t (rows.Gate g) = omega arith
+abbrev Adds : Taken → Taken → Row → Type 0
+Adds t u r = (length u.latches ≡ length t.latches + latch_in r) × (length u.gates ≡ length t.gates + gate_in r) × (u.total ≡ t.total + size_in r)
 
-gate_row : (t : Taken) (r : Row) → length (with_row t r).gates ≡ length t.gates + gate_in r
-gate_row t (rows.Input l) = omega arith
-gate_row t (rows.Latch l) = omega arith
-gate_row t (rows.Out l) = omega arith
-gate_row t (rows.Bad l) = omega arith
-gate_row t (rows.Con l) = omega arith
-gate_row t (rows.Size n) = omega arith
-gate_row t (rows.Justice l) = omega arith
-gate_row t (rows.Fair l) = omega arith
-gate_row t (rows.Gate g) = length-append t.gates (g ∷ [])
+row_adds : (t : Taken) (r : Row) → Adds t (with_row t r) r
+row_adds t (rows.Input l) = (omega arith, omega arith, omega arith)
+row_adds t (rows.Latch l) = (length-append t.latches (l ∷ []), omega arith, omega arith)
+row_adds t (rows.Out l) = (omega arith, omega arith, omega arith)
+row_adds t (rows.Bad l) = (omega arith, omega arith, omega arith)
+row_adds t (rows.Con l) = (omega arith, omega arith, omega arith)
+row_adds t (rows.Size n) = (omega arith, omega arith, refl)
+row_adds t (rows.Justice l) = (omega arith, omega arith, omega arith)
+row_adds t (rows.Fair l) = (omega arith, omega arith, omega arith)
+row_adds t (rows.Gate g) = (omega arith, length-append t.gates (g ∷ []), omega arith)
 
-size_row : (t : Taken) (r : Row) → (with_row t r).total ≡ t.total + size_in r
-size_row t (rows.Input l) = omega arith
-size_row t (rows.Latch l) = omega arith
-size_row t (rows.Out l) = omega arith
-size_row t (rows.Bad l) = omega arith
-size_row t (rows.Con l) = omega arith
-size_row t (rows.Size n) = refl
-size_row t (rows.Justice l) = omega arith
-size_row t (rows.Fair l) = omega arith
-size_row t (rows.Gate g) = omega arith
-
-latch_step : (form : Form) (t : Taken) (r : Row) → length (step form t r).latches ≡ length t.latches + latch_in r
-latch_step Ascii t r = latch_row (record t { marks = marked r t.marks }) r
-latch_step Binary t r = latch_row t r
-
-gate_step : (form : Form) (t : Taken) (r : Row) → length (step form t r).gates ≡ length t.gates + gate_in r
-gate_step Ascii t r = gate_row (record t { marks = marked r t.marks }) r
-gate_step Binary t r = gate_row t r
-
-size_step : (form : Form) (t : Taken) (r : Row) → (step form t r).total ≡ t.total + size_in r
-size_step Ascii t r = size_row (record t { marks = marked r t.marks }) r
-size_step Binary t r = size_row t r
+step_adds : (form : Form) (t : Taken) (r : Row) → Adds t (step form t r) r
+step_adds Ascii t r = row_adds (record t { marks = marked r t.marks }) r
+step_adds Binary t r = row_adds t r
 
 pub latches_takes : (form : Form) (t : Taken) (rs : List Row) → length (takes form t rs).latches ≡ length t.latches + sum_by latch_in rs
-latches_takes form t rs = measured form (λ u. length u.latches) latch_in (latch_step form) t rs
+latches_takes form t rs = measured form (λ u. length u.latches) latch_in (λ u r. (step_adds form u r).0) t rs
 
 pub gates_takes : (form : Form) (t : Taken) (rs : List Row) → length (takes form t rs).gates ≡ length t.gates + sum_by gate_in rs
-gates_takes form t rs = measured form (λ u. length u.gates) gate_in (gate_step form) t rs
+gates_takes form t rs = measured form (λ u. length u.gates) gate_in (λ u r. (step_adds form u r).1) t rs
 
 pub sizes_takes : (form : Form) (t : Taken) (rs : List Row) → (takes form t rs).total ≡ t.total + sum_by size_in rs
-sizes_takes form t rs = measured form (λ u. u.total) size_in (size_step form) t rs
+sizes_takes form t rs = measured form (λ u. u.total) size_in (λ u r. (step_adds form u r).2) t rs
 
 pub marks_takes : (t : Taken) (rs : List Row) → (takes Ascii t rs).marks ≡ marks_of rs t.marks
 marks_takes t [] = refl

@@ -21,7 +21,7 @@ use Rattle.gi_aiger.proofs.Accepting.{ascii_read, binary_read}
 use Rattle.gi_aiger.proofs.Cutting.{cut, bare_again, take_front, lines_first, rest_lines, lines_from, Behind, Has, ascii_behind, ascii_has}
 use Rattle.gi_aiger.proofs.Apart.{gates_apart}
 use Rattle.gi_aiger.proofs.Ending.{levels_never, value_said, said_answered, answer_only, answer_is}
-use Rattle.gi_aiger.proofs.Failing.{lines_same, gates_same, lines_end}
+use Rattle.gi_aiger.proofs.Failing.{line_of, code_of, gate_of, lines_same, gates_same, lines_end}
 use Rattle.gi_aiger.proofs.Falling.{binary_levels}
 use Rattle.gi_aiger.proofs.Feeding.{AtGates, binary_behind}
 use Rattle.gi_aiger.proofs.Fitting.{header_within}
@@ -59,10 +59,6 @@ lines_last a bytes more f answer late = by_answer answer where
   by_answer (inl t) = subst (λ (told : Told). Answer told (Err f)) (sym (lines_same a bytes more f (sym t.1) late)) (inl t)
   by_answer (inr t) = by_first t.0 t.1 t.2 (file_grown a whole more (lines_end a bytes)) (file_keeps a whole more (lines_end a bytes))
 
-gate_of : Result Aig AigFault → ℕ
-gate_of (Ok v) = 0
-gate_of (Err f) = f.gate
-
 pub gates_last : Global → GatesLast
 unfolding gate_of
 gates_last a bytes more f answer late gate = by_answer answer where
@@ -83,14 +79,6 @@ pub gates_helpless : Global → GatesHelpless
 gates_helpless a bytes f answer late gate v more is = fault_only v (bytes ++ more) f (gates_last a bytes more f answer late gate) is
 
 -- the lines up to the one that is named
-line_of : Result Aig AigFault → ℕ
-line_of (Ok v) = 0
-line_of (Err f) = f.line
-
-code_of : Result Aig AigFault → AigCode
-code_of (Ok v) = End
-code_of (Err f) = f.code
-
 answer_from : (told : Told) (f : AigFault) → 1 ≤ told.first → ((g : AigFault) → told.read ≡ Err g → 1 ≤ g.line) → Answer told (Err f) → 1 ≤ f.line
 unfolding line_of
 answer_from told f first line (inl t) = line f (sym t.1)

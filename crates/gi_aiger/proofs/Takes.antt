@@ -9,7 +9,7 @@ use Rattle.gi_aiger.specs.declared.row.Section.TheVariants as sections
 use Rattle.gi_aiger.specs.declared.row.Row.{Row}
 use Rattle.gi_aiger.specs.declared.row.Row.TheVariants as rows
 use Rattle.gi_aiger.specs.declared.taken.Taken.{Taken}
-use Rattle.gi_aiger.specs.Rows.{has_row, literal_of, defining_of, reset_of, latch_of, gate_of, row_with, size_of, row_of, row_read, section_of}
+use Rattle.gi_aiger.specs.Rows.{has_row, literal_of, defining_of, reset_of, latch_of, gate_of, row_with, size_of, row_of, row_read}
 use Rattle.gi_aiger.specs.Taking.{with_row, Fits}
 
 -- a row goes to its list and leaves the marks
@@ -71,45 +71,3 @@ read_fit max room section (Some ns) = by_test (has_row section (length ns)) wher
 
 pub row_fits : (max room : ℕ) (section : Section) (read : Option (List ℕ)) (row : Row) → Ok row ≡ row_read max room section read → Fits room row
 row_fits max room section read row e = subst (IsFit room) (sym e) (read_fit max room section read)
-
--- the row is of this section
-abbrev IsOf : Section → Result Row AigCode → Type 0
-IsOf section (Ok row) = section_of row ≡ section
-IsOf section (Err c) = Unit {0}
-
-with_of : (section : Section) (row : ℕ → Row) → ((n : ℕ) → section_of (row n) ≡ section) → (r : Result ℕ AigCode) → IsOf section (row_with row r)
-with_of section row h (Ok n) = h n
-with_of section row h (Err c) = tt
-
-latch_of_section : (own next : Result ℕ AigCode) (reset : Result Reset AigCode) → IsOf sections.Latch (latch_of own next reset)
-latch_of_section (Ok l) (Ok n) (Ok r) = refl
-latch_of_section (Ok l) (Ok n) (Err c) = tt
-latch_of_section (Ok l) (Err c) reset = tt
-latch_of_section (Err c) next reset = tt
-
-gate_of_section : (lhs rhs0 rhs1 : Result ℕ AigCode) → IsOf sections.Gate (gate_of lhs rhs0 rhs1)
-gate_of_section (Ok l) (Ok a) (Ok b) = refl
-gate_of_section (Ok l) (Ok a) (Err c) = tt
-gate_of_section (Ok l) (Err c) rhs1 = tt
-gate_of_section (Err c) rhs0 rhs1 = tt
-
-row_of_section : (max room : ℕ) (section : Section) (ns : List ℕ) → IsOf section (row_of max room section ns)
-row_of_section max room sections.Input ns = with_of sections.Input rows.Input (λ n. refl) (defining_of max (get_or ns 0 0))
-row_of_section max room sections.Latch ns = latch_of_section (defining_of max (get_or ns 0 0)) (literal_of max (get_or ns 1 0)) (reset_of (get_or ns 0 0) (get_or ns 2 0))
-row_of_section max room sections.Out ns = with_of sections.Out rows.Out (λ n. refl) (literal_of max (get_or ns 0 0))
-row_of_section max room sections.Bad ns = with_of sections.Bad rows.Bad (λ n. refl) (literal_of max (get_or ns 0 0))
-row_of_section max room sections.Con ns = with_of sections.Con rows.Con (λ n. refl) (literal_of max (get_or ns 0 0))
-row_of_section max room sections.Size ns = with_of sections.Size rows.Size (λ n. refl) (size_of room (get_or ns 0 0))
-row_of_section max room sections.Justice ns = with_of sections.Justice rows.Justice (λ n. refl) (literal_of max (get_or ns 0 0))
-row_of_section max room sections.Fair ns = with_of sections.Fair rows.Fair (λ n. refl) (literal_of max (get_or ns 0 0))
-row_of_section max room sections.Gate ns = gate_of_section (defining_of max (get_or ns 0 0)) (literal_of max (get_or ns 1 0)) (literal_of max (get_or ns 2 0))
-
-read_of_section : (max room : ℕ) (section : Section) (read : Option (List ℕ)) → IsOf section (row_read max room section read)
-read_of_section max room section None = tt
-read_of_section max room section (Some ns) = by_test (has_row section (length ns)) where
-  by_test : (b : Bool) → IsOf section (cond b (row_of max room section ns) (Err Count))
-  by_test true = row_of_section max room section ns
-  by_test false = tt
-
-pub row_sections : (max room : ℕ) (section : Section) (read : Option (List ℕ)) (row : Row) → Ok row ≡ row_read max room section read → section_of row ≡ section
-row_sections max room section read row e = subst (IsOf section) (sym e) (read_of_section max room section read)

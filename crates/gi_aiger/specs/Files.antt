@@ -14,6 +14,7 @@ use Rattle.gi_aiger.specs.declared.row.Row.TheVariants as rows
 use Rattle.gi_aiger.specs.declared.row.Section.{Section}
 use Rattle.gi_aiger.specs.declared.row.Section.TheVariants.{Gate}
 use Rattle.gi_aiger.specs.declared.taken.Taken.{Taken}
+use Rattle.gi_aiger.specs.Evens.{evens}
 use Rattle.gi_aiger.specs.Header.{header_of}
 use Rattle.gi_aiger.specs.Lines.{lines_of, bare, joined}
 use Rattle.gi_aiger.specs.Taking.{nothing, add_line, with_row}
@@ -126,11 +127,6 @@ read_section h s (suc n) line t (l ∷ ls) next = then_line (add_line h t s (bar
 unfoldable pub read_sections : Head → List Section → ℕ → Taken → List (List ℕ) → Told
 read_sections h [] line t ls = after_sections h.form h line t ls
 read_sections h (s ∷ ss) line t ls = read_section h s (left_in h t s) line t ls (λ k u more. read_sections h ss k u more)
-
--- the literals of so many variables from the first on
-unfoldable pub evens : ℕ → List ℕ
-evens zero = []
-evens (suc n) = evens n ++ 2 * (n + 1) ∷ []
 
 -- the inputs of the binary form have no lines
 abbrev pub inputs_in : Form → ℕ → List ℕ

@@ -1,4 +1,5 @@
 pub mod Limits
+pub mod Evens
 pub mod Tables
 pub mod Fields
 pub mod Lines

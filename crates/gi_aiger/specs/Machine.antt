@@ -20,7 +20,7 @@ use Rattle.gi_aiger.specs.Taking.{IsBounded, nothing, add_line}
 use Rattle.gi_aiger.specs.Sections.{first_left, left_in, behind, sections_of}
 use Rattle.gi_aiger.specs.Groups.{difference_of, greater_at, lesser_at}
 use Rattle.gi_aiger.specs.Named.{add_symbol}
-use Rattle.gi_aiger.specs.Files.{Told, stopped, gate_stopped, whole, own_gate, with_gate, begin}
+use Rattle.gi_aiger.specs.Files.{Told, gates_line, stopped, gate_stopped, whole, own_gate, with_gate, begin}
 use Rattle.gi_aiger.specs.Limits.{most_items}
 
 -- a header of nothing
@@ -39,12 +39,13 @@ InPhase Naming h t = Unit {0}
 InPhase Comment h t = Unit {0}
 InPhase (Failed gate c) h t = Unit {0}
 
--- the header's numbers, the sum of the justice sizes and the lists are within their limits
+-- the header's numbers, the sum of the justice sizes and the lists are within their limits, and what stands has a part for each line behind the header
 pub record IsFit (s : Machine) : Type 0 where
   pub head : is_within s.head ≡ true
   pub total : s.taken.total ≤ most_items
   pub lists : IsBounded s.taken
   pub phase : InPhase s.phase s.head s.taken
+  pub lines : s.line ≤ gates_line s.taken + length s.taken.gates + length s.symbols
 
 abbrev pub failed : Machine → ℕ → AigCode → Machine
 failed s gate code = record s { phase = Failed gate code; word = [] }
@@ -69,7 +70,7 @@ abbrev pub phase_from : Head → Taken → List Section → Phase
 phase_from h t ss = phase_of h t (first_left h t ss)
 
 abbrev pub head_ends : Result Head AigCode → Machine → Machine
-head_ends (Ok h) s = record s { line = s.line + 1; phase = phase_from h (begin h) (sections_of h.form); head = h; word = []; taken = begin h }
+head_ends (Ok h) s = record s { line = 2; phase = phase_from h (begin h) (sections_of h.form); head = h; word = []; taken = begin h }
 head_ends (Err c) s = failed s 0 c
 
 abbrev pub row_ends : Section → Result Taken AigCode → Machine → Machine

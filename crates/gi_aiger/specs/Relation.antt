@@ -20,7 +20,8 @@ use Rattle.gi_aiger.specs.Rows.{literals_in, defined_variables, IsClosed}
 use Rattle.gi_aiger.specs.Sections.{sections_of}
 use Rattle.gi_aiger.specs.Symbols.{symbol_of}
 use Rattle.gi_aiger.specs.Named.{is_named}
-use Rattle.gi_aiger.specs.Files.{begins_comment, comment_of, evens}
+use Rattle.gi_aiger.specs.Evens.{evens}
+use Rattle.gi_aiger.specs.Files.{begins_comment, comment_of}
 use Rattle.gi_aiger.specs.Levels.{HasLevels}
 use Rattle.gi_aiger.specs.Deltas.{AreGates}
 use Rattle.gi_aiger.specs.Limits.{most_items}

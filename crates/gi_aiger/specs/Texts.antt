@@ -55,14 +55,21 @@ abbrev pub comment_text : Option (List ℕ) → List ℕ
 comment_text None = []
 comment_text (Some text) = (99 ∷ 10 ∷ []) ++ text
 
--- the sections up to the justice sizes
-abbrev pub front_text : Aig → List ℕ
-front_text v = ((((head_text v ++ number_lines v.inputs) ++ flat_map latch_line v.latches) ++ number_lines v.outs) ++ number_lines v.bads) ++ number_lines v.cons
+-- behind a text: the outputs, bad states and constraints, the justice properties' sizes and literals, and the fairness constraints
+abbrev pub with_properties : List ℕ → Aig → List ℕ
+with_properties front v =
+    (((((front ++ number_lines v.outs) ++ number_lines v.bads) ++ number_lines v.cons) ++ flat_map (λ p. number_line (length p)) v.justice)
+    ++ flat_map number_lines v.justice)
+    ++ number_lines v.fair
 
--- and all sections of lines
+-- and the symbols and the comment
+abbrev pub with_names : List ℕ → Aig → List ℕ
+with_names front v = (front ++ flat_map symbol_line v.symbols) ++ comment_text v.comment
+
+-- the header and all sections of lines
 abbrev pub body_text : Aig → List ℕ
-body_text v = (((front_text v ++ flat_map (λ p. number_line (length p)) v.justice) ++ flat_map number_lines v.justice) ++ number_lines v.fair) ++ flat_map gate_line v.gates
+body_text v = with_properties ((head_text v ++ number_lines v.inputs) ++ flat_map latch_line v.latches) v ++ flat_map gate_line v.gates
 
 -- the text of a value: its header, its sections in order, its symbols and its comment
 unfoldable pub ascii_text : Aig → List ℕ
-ascii_text v = (body_text v ++ flat_map symbol_line v.symbols) ++ comment_text v.comment
+ascii_text v = with_names (body_text v) v

@@ -1,4 +1,5 @@
 // What a file says.
+use crate::inputs::Inputs;
 use crate::lists::{EdgeLists, Edges, Gates, Latches, Symbols};
 use gi_lit::Edge;
 use gi_text::Bytes;
@@ -48,7 +49,7 @@ pub struct Aig {
     /// The greatest variable that the file may name.
     pub max: u32,
     /// The literals that the inputs define.
-    pub inputs: Edges,
+    pub inputs: Inputs,
     pub latches: Latches,
     pub outs: Edges,
     /// The bad states.

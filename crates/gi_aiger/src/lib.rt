@@ -7,6 +7,7 @@ mod fields;
 mod gates;
 mod groups;
 mod head;
+mod inputs;
 mod judge;
 mod laws;
 mod limits;
@@ -30,6 +31,7 @@ mod writing;
 pub use aig::{Aig, AndGate, Latch, Reset, Symbol};
 pub use fault::{AigCode, AigFault};
 pub use gates::{acyclic_places, places_by_level};
+pub use inputs::Inputs;
 pub use laws::{
     answers_stand, cycles_stay, faults_stand, gate_faults_are_shown, gates_have_levels,
     no_continuation_helps, one_answer, read_is_said, said_is_good, said_is_read, undefined_stays,

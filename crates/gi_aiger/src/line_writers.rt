@@ -2,7 +2,7 @@
 //! that text may stand there.
 ghost use Rattle.std.specs.Prelude.{◌≡◌, ◌++◌, ◌∷◌, [], length, decimal, OnOk};
 ghost use Rattle.std.specs.List.{flat_map};
-ghost use Rattle.gi_aiger.specs.Texts.{comment_text, count_text, counts_text, further_text, head_by, number_line, number_lines, reset_text, symbol_line};
+ghost use Rattle.gi_aiger.specs.Texts.{comment_text, count_text, counts_text, further_text, head_by, number_line, number_lines, reset_text, symbol_line, with_names, with_properties};
 
 use crate::aig::{Aig, Reset, Symbol};
 use crate::lists::Edges;
@@ -110,8 +110,8 @@ pub fn put_reset(out: &mut Bytes, lit: Edge, reset: Reset) -> Result<(), AllocEr
     }
 }
 
-/// Writes the size of each justice property as a line.
-pub fn put_sizes(out: &mut Bytes, lists: &[Edges]) -> Result<(), AllocError>
+// Writes the size of each justice property as a line.
+fn put_sizes(out: &mut Bytes, lists: &[Edges]) -> Result<(), AllocError>
     ensures { OnOk result (out.new ≡ out.old ++ flat_map (λ p. number_line (length p)) lists.now) }
 {
     for list in lists {
@@ -120,14 +120,27 @@ pub fn put_sizes(out: &mut Bytes, lists: &[Edges]) -> Result<(), AllocError>
     Ok(())
 }
 
-/// Writes the codes of all justice properties' edges, each as a line.
-pub fn put_lists(out: &mut Bytes, lists: &[Edges]) -> Result<(), AllocError>
+// Writes the codes of all justice properties' edges, each as a line.
+fn put_lists(out: &mut Bytes, lists: &[Edges]) -> Result<(), AllocError>
     ensures { OnOk result (out.new ≡ out.old ++ flat_map number_lines lists.now) }
 {
     for list in lists {
         put_edges(out, list.as_slice())?;
     }
     Ok(())
+}
+
+/// Writes the sections that stand alike in both forms: outputs, bad states, constraints, justice properties by their sizes and
+/// literals, and fairness constraints.
+pub fn put_properties(out: &mut Bytes, aig: &Aig) -> Result<(), AllocError>
+    ensures { OnOk result (out.new ≡ with_properties out.old aig.now) }
+{
+    put_edges(out, aig.outs.as_slice())?;
+    put_edges(out, aig.bads.as_slice())?;
+    put_edges(out, aig.cons.as_slice())?;
+    put_sizes(out, aig.justice.as_slice())?;
+    put_lists(out, aig.justice.as_slice())?;
+    put_edges(out, aig.fair.as_slice())
 }
 
 fn put_symbol(out: &mut Bytes, symbol: &Symbol) -> Result<(), AllocError>
@@ -140,8 +153,8 @@ fn put_symbol(out: &mut Bytes, symbol: &Symbol) -> Result<(), AllocError>
     out.extend(b"\n")
 }
 
-/// Writes the symbols, a line each.
-pub fn put_symbols(out: &mut Bytes, symbols: &[Symbol]) -> Result<(), AllocError>
+// Writes the symbols, a line each.
+fn put_symbols(out: &mut Bytes, symbols: &[Symbol]) -> Result<(), AllocError>
     ensures { OnOk result (out.new ≡ out.old ++ flat_map symbol_line symbols.now) }
 {
     for symbol in symbols {
@@ -150,8 +163,8 @@ pub fn put_symbols(out: &mut Bytes, symbols: &[Symbol]) -> Result<(), AllocError
     Ok(())
 }
 
-/// Writes the line `c` and the comment behind it, where there is one.
-pub fn put_comment(out: &mut Bytes, comment: &Option<Bytes>) -> Result<(), AllocError>
+// Writes the line `c` and the comment behind it, where there is one.
+fn put_comment(out: &mut Bytes, comment: &Option<Bytes>) -> Result<(), AllocError>
     ensures { OnOk result (out.new ≡ out.old ++ comment_text comment.now) }
 {
     match comment {
@@ -161,4 +174,12 @@ pub fn put_comment(out: &mut Bytes, comment: &Option<Bytes>) -> Result<(), Alloc
             out.extend(text.as_slice())
         }
     }
+}
+
+/// Writes the symbols, a line each, and behind a line `c` the comment, where there is one.
+pub fn put_names(out: &mut Bytes, aig: &Aig) -> Result<(), AllocError>
+    ensures { OnOk result (out.new ≡ with_names out.old aig.now) }
+{
+    put_symbols(out, aig.symbols.as_slice())?;
+    put_comment(out, &aig.comment)
 }

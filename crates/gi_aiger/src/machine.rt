@@ -1,7 +1,7 @@
 // The machine over bytes.
-ghost use Rattle.std.specs.Prelude.{◌≡◌, ◌≤◌, ◌∷◌, ◌++◌, ◌+◌, [], length, OnOk, IfOk};
+ghost use Rattle.std.specs.Prelude.{◌≡◌, ◌≤◌, ◌∷◌, ◌+◌, length, OnOk};
 ghost use Rattle.gi_aiger.specs.declared.phase.Phase.TheVariants as phases;
-ghost use Rattle.gi_aiger.specs.Files.{begin, evens, own_gate};
+ghost use Rattle.gi_aiger.specs.Files.{begin, own_gate};
 ghost use Rattle.gi_aiger.specs.Groups.{greater_at, lesser_at};
 ghost use Rattle.gi_aiger.specs.Header.{header_of};
 ghost use Rattle.gi_aiger.specs.Sections.{behind};
@@ -14,7 +14,7 @@ use crate::aig::AndGate;
 use crate::fault::AigCode;
 use crate::groups::read_difference;
 use crate::head::{Form, Head, read_header};
-use crate::lists::Edges;
+use crate::inputs::Inputs;
 use crate::named::Named;
 use crate::phase::Phase;
 use crate::row::Section;
@@ -82,42 +82,35 @@ fn fail(m: &mut Machine, gate: u32, code: AigCode)
     m.word.clear();
 }
 
-// The next line begins. There is no number for more lines than memory could hold.
-fn next_line(m: &mut Machine) -> Result<(), AllocError>
-    ensures { OnOk result (m.new ≡ new_line m.old) }
+// The number of the next line. There is one, since memory holds something of each line so far.
+fn line_behind(m: &Machine) -> u64
+    requires fit { IsFit m.now }
+    ensures { result ≡ m.now.line + 1 }
 {
-    if m.line == u64::MAX {
-        return Err(AllocError);
-    }
-    m.line += 1;
-    m.word.clear();
-    Ok(())
+    let _symbols = m.symbols.len();
+    m.line + 1
 }
 
-// The literals of so many variables from the first on.
-#[tactic(auto, unfolding(crate::specs::Files::evens))]
-fn evens(alloc: Global, count: u64) -> Result<Edges, AllocError>
-    requires { count ≤ most_items }
-    ensures { IfOk result (λ edges. edges ≡ evens count) }
+// The next line begins.
+fn begin_line(m: &mut Machine, line: u64)
+    requires { line ≡ m.old.line + 1 }
+    ensures { m.new ≡ new_line m.old }
 {
-    let mut edges = Edges::new(alloc);
-    for i in 0..count {
-        edges.push(Edge::new(2 * (i as u32 + 1)))?;
-    }
-    Ok(edges)
+    m.line = line;
+    m.word.clear();
 }
 
 // What the header tells. The inputs of the binary form have no lines.
-fn begin(alloc: Global, head: &Head) -> Result<Taken, AllocError>
+fn begin(alloc: Global, head: &Head) -> Taken
     requires { head.now.inputs ≤ most_items }
-    ensures { IfOk result (λ taken. taken ≡ begin head.now) }
+    ensures { result ≡ begin head.now }
 {
     let mut taken = nothing(alloc);
     match head.form {
         Form::Ascii => {}
-        Form::Binary => taken.inputs = evens(alloc, head.inputs)?,
+        Form::Binary => taken.inputs = Inputs::of_first(alloc, head.inputs as u32),
     }
-    Ok(taken)
+    taken
 }
 
 // Behind the gates before this one.
@@ -161,10 +154,12 @@ fn end_head(m: &mut Machine) -> Result<(), AllocError>
             Ok(())
         }
         Ok(head) => {
-            m.taken = begin(m.alloc, &head)?;
+            m.taken = begin(m.alloc, &head);
             m.phase = phase_from(&head, &m.taken, Section::Input);
             m.head = head;
-            next_line(m)
+            m.line = 2;
+            m.word.clear();
+            Ok(())
         }
     }
 }
@@ -174,6 +169,7 @@ fn end_row(m: &mut Machine, section: Section) -> Result<(), AllocError>
     requires fit { IsFit m.old }
     ensures { OnOk result (m.new ≡ row_ends section (add_line m.old.head m.old.taken section m.old.word) m.old) }
 {
+    let line = line_behind(m);
     match add_line(&mut m.taken, m.alloc, &m.head, section, m.word.as_slice())? {
         Some(code) => {
             fail(m, 0, code);
@@ -181,7 +177,8 @@ fn end_row(m: &mut Machine, section: Section) -> Result<(), AllocError>
         }
         None => {
             m.phase = phase_from(&m.head, &m.taken, section);
-            next_line(m)
+            begin_line(m, line);
+            Ok(())
         }
     }
 }
@@ -207,6 +204,7 @@ fn end_symbol(m: &mut Machine) -> Result<(), AllocError>
     requires fit { IsFit m.old }
     ensures { OnOk result (m.new ≡ symbol_ends (add_symbol m.old.head m.old.symbols m.old.word) m.old) }
 {
+    let line = line_behind(m);
     match read_symbol(m.alloc, &m.head, m.word.as_slice())? {
         None => {
             fail(m, 0, AigCode::Symbol);
@@ -218,7 +216,8 @@ fn end_symbol(m: &mut Machine) -> Result<(), AllocError>
                 return Ok(());
             }
             m.symbols.push(symbol)?;
-            next_line(m)
+            begin_line(m, line);
+            Ok(())
         }
     }
 }

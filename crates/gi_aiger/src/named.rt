@@ -1,58 +1,43 @@
 // The symbols so far.
-ghost use Rattle.std.specs.Prelude.{◌≡◌, ◌≤◌, ◌<◌, ◌+◌, ◌*◌, ◌-◌, ◌^◌, ◌++◌, ◌∷◌, [], ℕ, false, length, slice_index_or, OnOk};
+ghost use Rattle.std.specs.Prelude.{◌≡◌, ◌≤◌, ◌<◌, ◌+◌, ◌*◌, ◌-◌, ◌^◌, ◌++◌, ◌∷◌, [], length, OnOk};
+ghost use Rattle.gi_aiger.specs.Limits.{most_items};
 ghost use Rattle.gi_aiger.specs.Named.{is_named};
 
 use crate::aig::Symbol;
 use crate::lists::Symbols;
+use crate::table::Table;
 use std::alloc::{AllocError, Global};
 use std::marker::Model;
 
 /// The symbols so far. Contracts see their list.
 #[derive(Drop)]
 pub struct Named {
-    items: Symbols,
+    items: Vec<Symbol>,
     // Which kinds and places they have: 16 flags a place, the kind's place from `b` on.
-    seen: Vec<bool>,
+    seen: Table<bool>,
 }
 
 impl Model for Named {
-    ghost use Rattle.std.specs.Prelude.{List, ℕ, ◌≡◌, ◌≤◌, ◌<◌, ◌+◌, ◌*◌, ◌-◌, slice_index_or, false};
+    ghost use Rattle.std.specs.Prelude.{List, ℕ, ◌≡◌, ◌≤◌, ◌<◌, ◌+◌, ◌*◌, ◌-◌};
     ghost use Rattle.gi_aiger.specs.declared.aig.Symbol.{Symbol};
     ghost use Rattle.gi_aiger.specs.Named.{is_named};
+    ghost use Rattle.gi_aiger.specs.Tables.{value_of};
 
     ghost Value = { List Symbol };
 
-    ghost view = { λ n. n.items };
+    ghost view = { λ n. n.items.items };
 
-    ghost invariant = { λ n. (kind place : ℕ) → 98 ≤ kind → kind < 114 → slice_index_or n.seen.items (16 * place + (kind - 98)) false ≡ is_named n.items kind place };
+    ghost invariant = { λ n. (kind place : ℕ) → 98 ≤ kind → kind < 114 → value_of n.seen (16 * place + (kind - 98)) ≡ is_named n.items.items kind place };
 }
 
-// The place of a kind's and place's flag.
-fn flag_of(kind: u8, place: u32) -> usize
+// The number of a kind's and place's flag.
+fn flag_of(kind: u8, place: u32) -> u32
     requires lower { 98 ≤ kind }
-    ensures flag { result ≡ 16 * place + (kind - 98) }
-    ensures small { result < 2 ^ 40 }
+    requires upper { kind < 114 }
+    requires place { place < most_items }
+    ensures { result ≡ 16 * place + (kind - 98) }
 {
-    16 * (place as usize) + (kind - b'b') as usize
-}
-
-// The flag at a place; past the last it isn't set.
-fn flag_at(seen: &Vec<bool>, flag: usize) -> bool
-    ensures { result ≡ slice_index_or seen.now.items flag false }
-{
-    if flag < seen.len() { seen[flag] } else { false }
-}
-
-// Room for a flag.
-fn reach(seen: &mut Vec<bool>, flag: usize) -> Result<(), AllocError>
-    requires small { flag < 2 ^ 40 }
-    ensures room { OnOk result (flag < length seen.new.items) }
-    ensures same { (i : ℕ) → slice_index_or seen.new.items i false ≡ slice_index_or seen.old.items i false }
-{
-    if flag >= seen.len() {
-        seen.resize(flag + 1, false)?;
-    }
-    Ok(())
+    16 * place + (kind - b'b') as u32
 }
 
 impl Named {
@@ -61,30 +46,40 @@ impl Named {
         ensures { result ≡ [] }
     {
         Named {
-            items: Symbols::new(alloc),
-            seen: Vec::new(alloc),
+            items: Vec::new(alloc),
+            seen: Table::new(alloc, false),
         }
+    }
+
+    /// How many there are.
+    pub fn len(&self) -> usize
+        ensures len { result ≡ length self.now }
+        ensures small { result < 2 ^ 63 }
+    {
+        self.items.as_slice().len()
     }
 
     /// Whether one of them is of this kind and place.
     pub fn has(&self, kind: u8, place: u32) -> bool
         requires lower { 98 ≤ kind }
         requires upper { kind < 114 }
+        requires place { place < most_items }
         ensures { result ≡ is_named self.now kind place }
     {
-        flag_at(&self.seen, flag_of(kind, place))
+        self.seen.get(flag_of(kind, place))
     }
 
     /// Puts a symbol behind the last one.
     pub fn push(&mut self, symbol: Symbol) -> Result<(), AllocError>
         requires lower { 98 ≤ symbol.kind }
         requires upper { symbol.kind < 114 }
+        requires place { symbol.place < most_items }
         ensures { OnOk result (self.new ≡ self.old ++ symbol ∷ []) }
     {
         let flag = flag_of(symbol.kind, symbol.place);
-        reach(&mut self.seen, flag)?;
-        self.items.push(symbol)?;
-        self.seen[flag] = true;
+        self.items.reserve(1)?;
+        self.seen.put(flag, true)?;
+        self.items.push_reserved(symbol);
         Ok(())
     }
 
@@ -92,6 +87,6 @@ impl Named {
     pub fn into_symbols(self) -> Symbols
         ensures { result ≡ self }
     {
-        self.items
+        Symbols::from_vec(self.items)
     }
 }

@@ -17,35 +17,23 @@ fn places_of(head: &Head, kind: u8) -> u64
     ensures places { result ≡ places_of head.now kind }
     ensures kind { 0 < result → (98 ≤ kind) × (kind < 114) }
 {
-    if kind == b'i' {
-        return head.inputs;
+    match kind {
+        b'i' => head.inputs,
+        b'l' => head.latches,
+        b'o' => head.outs,
+        b'b' => head.bads,
+        b'c' => head.cons,
+        b'j' => head.justice,
+        b'f' => head.fair,
+        _ => 0,
     }
-    if kind == b'l' {
-        return head.latches;
-    }
-    if kind == b'o' {
-        return head.outs;
-    }
-    if kind == b'b' {
-        return head.bads;
-    }
-    if kind == b'c' {
-        return head.cons;
-    }
-    if kind == b'j' {
-        return head.justice;
-    }
-    if kind == b'f' {
-        return head.fair;
-    }
-    0
 }
 
 // The place, if the section has it.
 fn place_of(places: u64, field: &[u8]) -> Option<u32>
     requires { places ≤ most_items }
     ensures place { result ≡ place_in places (magnitude field.now) }
-    ensures some { IfSome result (λ place. 0 < places) }
+    ensures some { IfSome result (λ place. place < places) }
 {
     match read_unsigned(field) {
         None => None,
@@ -68,7 +56,7 @@ fn read_parts(
 ) -> Result<Option<Symbol>, AllocError>
     requires { places ≤ most_items }
     ensures read { IfOk result (λ read. read ≡ symbol_parts places kind (split_space rest.now)) }
-    ensures kind { IfOk result (λ read. IfSome read (λ s. (s.kind ≡ kind) × (0 < places))) }
+    ensures kind { IfOk result (λ read. IfSome read (λ s. (s.kind ≡ kind) × (s.place < places))) }
 {
     match split_field(rest) {
         None => Ok(None),
@@ -92,7 +80,7 @@ fn read_parts(
 pub fn read_symbol(alloc: Global, head: &Head, line: &[u8]) -> Result<Option<Symbol>, AllocError>
     requires { is_within head.now ≡ true }
     ensures read { IfOk result (λ read. read ≡ symbol_of head.now line.now) }
-    ensures kind { IfOk result (λ read. IfSome read (λ s. (98 ≤ s.kind) × (s.kind < 114))) }
+    ensures kind { IfOk result (λ read. IfSome read (λ s. (98 ≤ s.kind) × (s.kind < 114) × (s.place < most_items))) }
 {
     if line.is_empty() {
         return Ok(None);

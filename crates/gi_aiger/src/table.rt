@@ -5,7 +5,7 @@ use crate::page::Page;
 use std::alloc::{AllocError, Global};
 
 /// How many numbers a page has.
-const PAGE: usize = 1024;
+const PAGE: usize = 4096;
 
 /// A value for each number. Room is taken for the pages of the numbers that were given one, and three words for each page before them.
 #[derive(Drop)]

@@ -10,6 +10,7 @@ ghost use Rattle.gi_aiger.specs.Limits.{most_items};
 
 use crate::fault::AigCode;
 use crate::head::{Form, Head};
+use crate::inputs::Inputs;
 use crate::limits::MOST_ITEMS;
 use crate::lists::{Edges, Gates, Latches, Sizes};
 use crate::mark::Mark;
@@ -21,7 +22,7 @@ use std::alloc::{AllocError, Global};
 /// What the lines between the header and the symbols said so far.
 #[derive(Drop)]
 pub struct Taken {
-    pub inputs: Edges,
+    pub inputs: Inputs,
     pub latches: Latches,
     pub outs: Edges,
     pub bads: Edges,
@@ -43,7 +44,7 @@ pub fn nothing(alloc: Global) -> Taken
     ensures { result ≡ nothing }
 {
     Taken {
-        inputs: Edges::new(alloc),
+        inputs: Inputs::new(alloc),
         latches: Latches::new(alloc),
         outs: Edges::new(alloc),
         bads: Edges::new(alloc),

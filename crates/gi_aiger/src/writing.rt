@@ -1,14 +1,13 @@
 // The writer of the ASCII form.
 ghost use Rattle.std.specs.Prelude.{◌≡◌, ◌++◌, OnOk, IfOk};
 ghost use Rattle.std.specs.List.{flat_map};
-ghost use Rattle.gi_aiger.specs.Texts.{ascii_text, body_text, front_text, gate_line, latch_line};
+ghost use Rattle.gi_aiger.specs.Texts.{ascii_text, gate_line, latch_line};
 ghost use Rattle.gi_aiger.specs.Good.{IsGood};
 ghost use Rattle.gi_aiger.specs.Relation.{IsAscii};
 
 use crate::aig::{Aig, AndGate, Latch};
 use crate::line_writers::{
-    put_comment, put_count, put_edges, put_head, put_lists, put_number, put_reset, put_sizes,
-    put_symbols,
+    put_count, put_edges, put_head, put_names, put_number, put_properties, put_reset,
 };
 use gi_text::Bytes;
 use std::alloc::{AllocError, Global};
@@ -49,40 +48,19 @@ fn put_gates(out: &mut Bytes, gates: &[AndGate]) -> Result<(), AllocError>
     Ok(())
 }
 
-// The header, and the sections up to the justice sizes.
-fn front_of(alloc: Global, aig: &Aig) -> Result<Bytes, AllocError>
-    ensures { IfOk result (λ bytes. bytes ≡ front_text aig.now) }
-{
-    let mut out = Bytes::new(alloc);
-    put_head(&mut out, b"aag", aig)?;
-    put_edges(&mut out, aig.inputs.as_slice())?;
-    put_latches(&mut out, aig.latches.as_slice())?;
-    put_edges(&mut out, aig.outs.as_slice())?;
-    put_edges(&mut out, aig.bads.as_slice())?;
-    put_edges(&mut out, aig.cons.as_slice())?;
-    Ok(out)
-}
-
-// The header and all sections of lines.
-fn body_of(alloc: Global, aig: &Aig) -> Result<Bytes, AllocError>
-    ensures { IfOk result (λ bytes. bytes ≡ body_text aig.now) }
-{
-    let mut out = front_of(alloc, aig)?;
-    put_sizes(&mut out, aig.justice.as_slice())?;
-    put_lists(&mut out, aig.justice.as_slice())?;
-    put_edges(&mut out, aig.fair.as_slice())?;
-    put_gates(&mut out, aig.gates.as_slice())?;
-    Ok(out)
-}
-
 // The text of a value in the ASCII form.
 #[tactic(auto, unfolding(crate::specs::Texts::ascii_text))]
 fn text_of(alloc: Global, aig: &Aig) -> Result<Bytes, AllocError>
     ensures { IfOk result (λ bytes. bytes ≡ ascii_text aig.now) }
 {
-    let mut out = body_of(alloc, aig)?;
-    put_symbols(&mut out, aig.symbols.as_slice())?;
-    put_comment(&mut out, &aig.comment)?;
+    let inputs = aig.inputs.listed(alloc)?;
+    let mut out = Bytes::new(alloc);
+    put_head(&mut out, b"aag", aig)?;
+    put_edges(&mut out, inputs.as_slice())?;
+    put_latches(&mut out, aig.latches.as_slice())?;
+    put_properties(&mut out, aig)?;
+    put_gates(&mut out, aig.gates.as_slice())?;
+    put_names(&mut out, aig)?;
     Ok(out)
 }
 

@@ -1,10 +1,11 @@
-use Rattle.std.proofs.Common.{sym, subst, List}
-use Rattle.std.specs.Prelude.{slice_set, true}
+use Rattle.std.proofs.Common.{◌≡◌, List, [], ◌∷◌, ◌++◌, sym, ap, ◌∙◌, subst}
 use Rattle.gi_aiger.specs.declared.aig.Symbol.{Symbol}
+use Rattle.gi_aiger.specs.Tables.{value_of}
 use Rattle.gi_aiger.proofs.Naming.{Tell, push_tells}
 use Rattle.gi_aiger.proofs.named.Named.push.Goals as goal
 
 pub invariant_of-self-2 : goal.invariant_of-self-2
 invariant_of-self-2 c =
-    subst (λ (symbols : List Symbol). Tell (slice_set c.reach.new.seen.items c.flag_of-flag.result true) symbols) (sym c.in_ok-push.ensures.ok)
-    (push_tells c.self.inside.seen.items c.reach.new.seen.items c.self.inside.items c.args.symbol c.flag_of-flag.result c.self.invariant c.in_ok-reach.ensures.same c.in_ok-reach.ensures.room c.requires.lower c.requires.upper c.flag_of-flag.ensures.flag)
+    let items : c.push_reserved.new.self.items ≡ c.self.inside.items.items ++ c.args.symbol ∷ [] = c.push_reserved.ensures.items ∙ ap (λ (xs : List Symbol). xs ++ c.args.symbol ∷ []) c.reserve.ensures.items in
+    subst (λ (symbols : List Symbol). Tell (value_of c.put.new.self) symbols) (sym items)
+    (push_tells (value_of c.self.inside.seen) (value_of c.put.new.self) c.self.inside.items.items c.args.symbol c.flag_of-flag.result c.self.invariant c.in_ok-put.ensures.same c.in_ok-put.ensures.rest c.requires.lower c.requires.upper c.flag_of-flag.ensures)
