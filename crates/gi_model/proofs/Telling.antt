@@ -34,23 +34,12 @@ spent_edited (running r) n h = h
 spent_edited (paused r) n h = h
 spent_edited (ended k v) n h = tt
 
-spent_pausing : (v : Solve) (n : ℕ) → HasSpent v n → HasSpent (pausing v) n
-spent_pausing no_solve n h = tt
-spent_pausing (running r) n h = h
-spent_pausing (paused r) n h = h
-spent_pausing (ended k v) n h = h
-
-spent_resuming : (v : Solve) (n : ℕ) → HasSpent v n → HasSpent (resuming v) n
-spent_resuming no_solve n h = tt
-spent_resuming (running r) n h = h
-spent_resuming (paused r) n h = h
-spent_resuming (ended k v) n h = h
-
-spent_stopping : (v : Solve) (n : ℕ) → HasSpent v n → HasSpent (stopping v) n
-spent_stopping no_solve n h = tt
-spent_stopping (running r) n h = tt
-spent_stopping (paused r) n h = tt
-spent_stopping (ended k v) n h = h
+-- a rest, its end and a stop
+spent_turned : (v : Solve) (n : ℕ) → HasSpent v n → HasSpent (pausing v) n × HasSpent (resuming v) n × HasSpent (stopping v) n
+spent_turned no_solve n h = (tt, tt, tt)
+spent_turned (running r) n h = (h, h, tt)
+spent_turned (paused r) n h = (h, h, tt)
+spent_turned (ended k v) n h = (h, h, h)
 
 -- a status tells nothing of what was learnt
 status_tells : (s : State) (c : Call) (v w : Solve) (spent : ℕ) → HasSpent s.solve spent → HasSpent w spent → accepted s c (status_of v) ≡ record s { solve = w } → AgreesOn s c (status_of v) spent
@@ -116,9 +105,9 @@ answer_tells s call.Test answer spent a h = test_tells s answer spent h a
 answer_tells s call.Untest answer spent a h = told s call.Untest answer _ spent a (record { known_is = refl; spent_is = spent_edited s.solve spent h })
 answer_tells s (call.Reasons m) answer spent a h = reasons_tell s m answer spent h a
 answer_tells s (call.Solve b) answer spent a h = told s (call.Solve b) answer _ spent a (record { known_is = refl; spent_is = refl })
-answer_tells s call.Pause answer spent a h = told s call.Pause answer _ spent a (status_tells s call.Pause (pausing s.solve) (pausing s.solve) spent h (spent_pausing s.solve spent h) refl)
-answer_tells s call.Resume answer spent a h = told s call.Resume answer _ spent a (status_tells s call.Resume (resuming s.solve) (resuming s.solve) spent h (spent_resuming s.solve spent h) refl)
-answer_tells s call.Stop answer spent a h = told s call.Stop answer _ spent a (status_tells s call.Stop (stopping s.solve) (stopping s.solve) spent h (spent_stopping s.solve spent h) refl)
+answer_tells s call.Pause answer spent a h = told s call.Pause answer _ spent a (status_tells s call.Pause (pausing s.solve) (pausing s.solve) spent h (spent_turned s.solve spent h).0 refl)
+answer_tells s call.Resume answer spent a h = told s call.Resume answer _ spent a (status_tells s call.Resume (resuming s.solve) (resuming s.solve) spent h (spent_turned s.solve spent h).1 refl)
+answer_tells s call.Stop answer spent a h = told s call.Stop answer _ spent a (status_tells s call.Stop (stopping s.solve) (stopping s.solve) spent h (spent_turned s.solve spent h).2 refl)
 answer_tells s call.Poll answer spent a h = told s call.Poll answer _ spent a (status_tells s call.Poll s.solve s.solve spent h h refl)
 answer_tells s call.Wait answer spent a h = told s call.Wait answer _ spent a (waited_tells s s.solve spent h)
 answer_tells s call.Model answer spent a h = model_tells s answer spent s.solve h a

@@ -23,7 +23,8 @@ edits call = false
 
 -- no edit is accepted: it was refused, or memory was wanting
 abbrev pub IsQuiet : Entry → Type 0
-IsQuiet e = edits e.call ≡ true → ((r : Refusal) × (e.reply ≡ reply.Refused r)) ⊎ (e.reply ≡ reply.NoMemory)
+IsQuiet e = edits e.call ≡ true
+    → ((r : Refusal) × (e.reply ≡ reply.Refused r)) ⊎ (e.reply ≡ reply.NoMemory)
 
 -- no solve is started
 abbrev pub StartsNone : Entry → Type 0
@@ -43,15 +44,20 @@ unfoldable pub live_slices : List Entry → ℕ
 live_slices [] = 0
 live_slices (e ∷ es) = live_of e.reply + live_slices es
 
--- since a solve over so many variables was started with this budget: at most 3^n clauses were learnt, the last slice's among them, and at most 3^n slices left it live; a solve that ran out of budget had no more than 3^n
+-- since a solve over so many variables was started with this budget: at most 3^n clauses were
+-- learnt, the last slice's among them, and at most 3^n slices left it live; a solve that ran out of
+-- budget had no more than 3^n
 pub record IsShort (vars budget : ℕ) (more : List Entry) (s : State) : Type 0 where
   pub news : told_spent 0 more ≤ 3 ^ vars
   pub live : live_slices more ≤ 3 ^ vars
   pub run : (r : Run) → IsUnderWay s.solve r → r.spent ≤ 3 ^ vars
-  pub ended : (serial b : ℕ) → s.solve ≡ ended serial (Unknown (Budget b)) → (b ≡ budget) × (budget ≤ 3 ^ vars)
+  pub ended : (serial b : ℕ) → s.solve ≡ ended serial (Unknown (Budget b))
+      → (b ≡ budget) × (budget ≤ 3 ^ vars)
 
 -- so it is from the start of a solve on, while no edit is accepted and no other solve is started
 abbrev pub SolvesAreShort : Type 0
 SolvesAreShort = (es more : List Entry) (by budget serial : ℕ)
-    → let start : Entry = record { by = by; call = Start budget; reply = reply.Started serial } in IsLegal (es ++ start ∷ more) → All IsQuiet more → All StartsNone more
-    → IsShort (after_all opening es).problem.vars budget more (after_all opening (es ++ start ∷ more))
+    → let start : Entry = record { by = by; call = Start budget; reply = reply.Started serial }
+    in IsLegal (es ++ start ∷ more) → All IsQuiet more → All StartsNone more
+    → IsShort (after_all opening es).problem.vars budget more
+    (after_all opening (es ++ start ∷ more))

@@ -10,7 +10,8 @@ use Rattle.gi_model.specs.declared.refusal.Refusal.TheVariants as refusal
 
 -- those of a machine that doesn't admit the call
 abbrev pub unadmitted : State → Call → Option Refusal
-unadmitted s call = if is_over s.life then Some refusal.Dead else if not (admits s.solve call) then Some refusal.Busy else None
+unadmitted s call = if is_over s.life then Some refusal.Dead else if not (admits s.solve call)
+    then Some refusal.Busy else None
 
 -- these alone where there is a payload, else all of the table
 abbrev pub early : State → Call → Option Refusal

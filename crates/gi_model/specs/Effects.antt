@@ -43,7 +43,8 @@ stopping (ended n v) = ended n v
 
 -- where there are too many learnt clauses the oldest half, rounded down, goes
 abbrev pub trimmed : List (List ℕ) → List (List ℕ)
-trimmed known = if nat_lt most_untrimmed (length known) then drop (length known / 2) known else known
+trimmed known = if nat_lt most_untrimmed (length known) then drop (length known / 2) known
+    else known
 
 -- an edit of the problem
 abbrev pub with_problem : Problem → State → State
@@ -51,11 +52,19 @@ with_problem p s = record s { problem = p; solve = edited s.solve }
 
 -- assumptions more; their variables are there from then on
 abbrev pub assuming : List ℕ → State → State
-assuming ls s = record s { problem = grown (top ls) s.problem; pending = s.pending ++ ls; solve = edited s.solve }
+assuming ls s = record s {
+  problem = grown (top ls) s.problem;
+  pending = s.pending ++ ls;
+  solve = edited s.solve;
+}
 
 -- a scope with the pending assumptions is opened
 abbrev pub opened : Found → State → State
-opened f s = record s { scopes = s.scopes ++ record { assumed = s.pending; found = f } ∷ []; pending = []; solve = edited s.solve }
+opened f s = record s {
+  scopes = s.scopes ++ record { assumed = s.pending; found = f } ∷ [];
+  pending = [];
+  solve = edited s.solve;
+}
 
 -- a scope with what the test answered
 abbrev pub tested : Reply → State → State
@@ -72,13 +81,23 @@ abbrev pub started : ℕ → State → State
 started budget s = record s {
   known = trimmed s.known;
   pending = [];
-  solve = running (record { serial = s.serial + 1; assumed = all_assumed s; budget = budget; spent = 0; slices = 0 });
+  solve = running (record {
+    serial = s.serial + 1;
+    assumed = all_assumed s;
+    budget = budget;
+    spent = 0;
+    slices = 0;
+  });
   serial = s.serial + 1;
 }
 
 -- a guard is dropped, with the groups that name it and with what was learnt about it
 abbrev pub dropped : ℕ → State → State
-dropped g s = record s { problem = without_guard g s.problem; known = without_var g s.known; solve = edited s.solve }
+dropped g s = record s {
+  problem = without_guard g s.problem;
+  known = without_var g s.known;
+  solve = edited s.solve;
+}
 
 -- what a slice leaves of the solve
 abbrev pub sliced : Run → ℕ → Now → Solve
@@ -87,7 +106,8 @@ sliced r news (Ended verdict) = ended r.serial verdict
 
 -- the news are learnt; without a solve to work on nothing changes
 abbrev pub worked : Option Run → Reply → State → State
-worked (Some r) (reply.Worked news now) s = record s { known = s.known ++ news; solve = sliced r (length news) now }
+worked (Some r) (reply.Worked news now) s =
+    record s { known = s.known ++ news; solve = sliced r (length news) now }
 worked run answer s = s
 
 -- what a call changes that isn't refused
@@ -115,7 +135,8 @@ accepted s Known answer = s
 accepted s (KnownClause i) answer = s
 accepted s Bye answer = s
 
--- the state after an entry: a refusal changes nothing, and want of memory leaves a new machine, but dead
+-- the state after an entry: a refusal changes nothing, and want of memory leaves a new machine, but
+-- dead
 unfoldable pub after : State → Call → Reply → State
 after s call (reply.Refused r) = s
 after s call reply.NoMemory = dead_state

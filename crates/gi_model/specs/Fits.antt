@@ -3,7 +3,8 @@ use Rattle.gi_model.specs.Limits.{most_payload}
 use Rattle.gi_model.specs.declared.calls.Call.{Call}
 use Rattle.gi_model.specs.declared.calls.Call.TheVariants.{Under, Solve, LoadCnf, Work}
 
--- a call that a caller may make: a group has a guard, a solve has a budget, a payload isn't too long, and work is the machine's own
+-- a call that a caller may make: a group has a guard, a solve has a budget, a payload isn't too
+-- long, and work is the machine's own
 abbrev pub fits : Call → Bool
 fits (Under gs c) = nat_lt 0 (length gs)
 fits (Solve budget) = not (budget == 0)

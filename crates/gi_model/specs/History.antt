@@ -93,12 +93,14 @@ is_of_payload r = false
 
 -- the answer where there is a refusal: it, or want of memory to read a payload in its place
 abbrev pub IsRefused : Call → Reply → Refusal → Type 0
-IsRefused call answer r = (answer ≡ reply.Refused r) ⊎ ((answer ≡ reply.NoMemory) × (is_load call ≡ true) × (is_of_payload r ≡ true))
+IsRefused call answer r = (answer ≡ reply.Refused r)
+    ⊎ ((answer ≡ reply.NoMemory) × (is_load call ≡ true) × (is_of_payload r ≡ true))
 
 -- the reply to a call: the refusal where there is one, else an answer or want of memory
 abbrev pub Replied : State → Call → Reply → Option Refusal → Type 0
 Replied s call answer (Some r) = IsRefused call answer r
-Replied s call answer None = Answers s call answer ⊎ ((answer ≡ reply.NoMemory) × (takes_memory s call ≡ true))
+Replied s call answer None = Answers s call answer
+    ⊎ ((answer ≡ reply.NoMemory) × (takes_memory s call ≡ true))
 
 -- an entry that the state allows
 pub record Allows (s : State) (call : Call) (answer : Reply) : Type 0 where

@@ -26,9 +26,11 @@ IsFoundSound p given earlier (failing w) = IsSublist w given × Fail (in_force p
 -- each scope over the assumptions and the lists of those before it
 abbrev pub AreScopesSound : Problem → List ℕ → List ℕ → List Scope → Type 0
 AreScopesSound p given earlier [] = Unit {0}
-AreScopesSound p given earlier (sc ∷ scs) = IsFoundSound p (given ++ sc.assumed) earlier sc.found × AreScopesSound p (given ++ sc.assumed) (earlier ++ listed_in sc.found) scs
+AreScopesSound p given earlier (sc ∷ scs) = IsFoundSound p (given ++ sc.assumed) earlier sc.found
+    × AreScopesSound p (given ++ sc.assumed) (earlier ++ listed_in sc.found) scs
 
--- a solve under way is the last that was started, has some of its budget left, and has learnt something in each slice
+-- a solve under way is the last that was started, has some of its budget left, and has learnt
+-- something in each slice
 pub record IsRunSound (serial : ℕ) (r : Run) : Type 0 where
   pub low : 1 ≤ r.serial
   pub last : r.serial ≡ serial
@@ -57,7 +59,8 @@ pub record IsProblemWithin (p : Problem) : Type 0 where
 pub record IsKept (s : State) : Type 0 where
   pub clauses : IsWellFormed s.problem
   pub within : IsProblemWithin s.problem
-  pub known_live : All (λ c. All (λ l. IsLiveVar s.problem (l / 2)) c) s.known  -- learnt clauses lie within the variables, and have no freed guard
+  -- learnt clauses lie within the variables, and have no freed guard
+  pub known_live : All (λ c. All (λ l. IsLiveVar s.problem (l / 2)) c) s.known
   pub known_implied : All (IsImplied s.problem) s.known
   pub pending : All (IsAssumable s.problem) s.pending  -- of problem variables, or active guards
   pub assumed : All (IsAssumable s.problem) (scope_assumed s.scopes)

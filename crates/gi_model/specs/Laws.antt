@@ -23,7 +23,8 @@ HistoriesAreKept = (es : List Entry) → IsLegal es → IsKept (after_all openin
 
 -- each learnt clause is implied by the problem
 abbrev pub KnownIsImplied : Type 0
-KnownIsImplied = (es : List Entry) → IsLegal es → All (IsImplied (after_all opening es).problem) (after_all opening es).known
+KnownIsImplied = (es : List Entry) → IsLegal es
+    → All (IsImplied (after_all opening es).problem) (after_all opening es).known
 
 -- the learnt clauses are those that the entries alone tell
 abbrev pub KnownIsTold : Type 0
@@ -31,7 +32,8 @@ KnownIsTold = (es : List Entry) → IsLegal es → (after_all opening es).known 
 
 -- and so is what a solve has spent
 abbrev pub SpentIsTold : Type 0
-SpentIsTold = (es : List Entry) → IsLegal es → HasSpent (after_all opening es).solve (told_spent 0 es)
+SpentIsTold = (es : List Entry) → IsLegal es
+    → HasSpent (after_all opening es).solve (told_spent 0 es)
 
 -- no literal of the variable
 abbrev pub IsWithout : ℕ → List ℕ → Type 0
@@ -48,15 +50,20 @@ pub record IsClean (s : State) (g : ℕ) : Type 0 where
 
 -- a guard that is handed out is clean, also while a solve is paused
 abbrev pub GuardsAreClean : Type 0
-GuardsAreClean = (es : List Entry) (g : ℕ) → IsLegal es → Allows (after_all opening es) NewGuard (reply.Guard g) → IsClean (after (after_all opening es) NewGuard (reply.Guard g)) g
+GuardsAreClean = (es : List Entry) (g : ℕ) → IsLegal es
+    → Allows (after_all opening es) NewGuard (reply.Guard g)
+    → IsClean (after (after_all opening es) NewGuard (reply.Guard g)) g
 
 -- a literal is a consequence of its reasons and the clauses in force under them
 abbrev pub ReasonsShow : Type 0
-ReasonsShow = (es : List Entry) (m : ℕ) (rs : List ℕ) → IsLegal es → let s = after_all opening es in Allows s (Reasons m) (reply.Reasons rs) → IsConsequence (in_force s.problem rs) rs m
+ReasonsShow = (es : List Entry) (m : ℕ) (rs : List ℕ) → IsLegal es
+    → let s = after_all opening es in Allows s (Reasons m) (reply.Reasons rs)
+    → IsConsequence (in_force s.problem rs) rs m
 
 -- a refusal is the one that the table names
 abbrev pub RefusalsAreNamed : Type 0
-RefusalsAreNamed = (s : State) (call : Call) (r : Refusal) → Allows s call (reply.Refused r) → refuses s call ≡ Some r
+RefusalsAreNamed = (s : State) (call : Call) (r : Refusal) → Allows s call (reply.Refused r)
+    → refuses s call ≡ Some r
 
 -- answers that no entry has
 abbrev pub IsNeverAnswered : Reply → Type 0
@@ -64,12 +71,15 @@ IsNeverAnswered answer = (s : State) (call : Call) → ¬ Allows s call answer
 
 -- a call that fits may come, but a wait not in the live phase
 abbrev pub CallsMayCome : Type 0
-CallsMayCome = (s : State) (call : Call) → fits call ≡ true → (call ≡ Wait → phase_of s ≢ Live) → MayCome s call
+CallsMayCome = (s : State) (call : Call) → fits call ≡ true → (call ≡ Wait → phase_of s ≢ Live)
+    → MayCome s call
 
 -- a legal history goes on with an entry that its state allows
 abbrev pub HistoriesGoOn : Type 0
-HistoriesGoOn = (es : List Entry) (e : Entry) → IsLegal es → Allows (after_all opening es) e.call e.reply → IsLegal (es ++ e ∷ [])
+HistoriesGoOn = (es : List Entry) (e : Entry) → IsLegal es
+    → Allows (after_all opening es) e.call e.reply → IsLegal (es ++ e ∷ [])
 
 -- and its state is the one after that entry
 abbrev pub StatesGoOn : Type 0
-StatesGoOn = (es : List Entry) (e : Entry) → after_all opening (es ++ e ∷ []) ≡ after (after_all opening es) e.call e.reply
+StatesGoOn = (es : List Entry) (e : Entry)
+    → after_all opening (es ++ e ∷ []) ≡ after (after_all opening es) e.call e.reply

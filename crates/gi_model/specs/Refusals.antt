@@ -42,7 +42,8 @@ while_paused (Under gs c) = true
 while_paused (DropGuard g) = true
 while_paused call = while_running call
 
--- Busy is the refusal of what the solve doesn't admit; without a solve and after its end everything is admitted
+-- Busy is the refusal of what the solve doesn't admit; without a solve and after its end everything
+-- is admitted
 abbrev pub admits : Solve → Call → Bool
 admits (running r) call = while_running call
 admits (paused r) call = while_paused call
@@ -58,7 +59,8 @@ is_scoped scopes call = false
 abbrev pub some_unusable : Problem → List ℕ → Bool
 some_unusable p ls = list_any (λ l. not (is_usable p l)) ls
 
--- Lit: a literal is neither of a problem variable nor of one that isn't there yet; Assume also takes an active guard's positive one
+-- Lit: a literal is neither of a problem variable nor of one that isn't there yet; Assume also
+-- takes an active guard's positive one
 abbrev pub has_bad_lit : Problem → Call → Bool
 has_bad_lit p (Add c) = some_unusable p c
 has_bad_lit p (Under gs c) = some_unusable p c
@@ -87,11 +89,13 @@ is_held s call = false
 
 -- one clause more, of these literals and with so many as given, would be too much
 abbrev pub is_full : Problem → List ℕ → ℕ → Bool
-is_full p c lits = nat_lt max_var (top c) || nat_lt most_clauses (clause_count p + 1) || nat_lt most_lits (lit_count p + lits)
+is_full p c lits = nat_lt max_var (top c) || nat_lt most_clauses (clause_count p + 1)
+    || nat_lt most_lits (lit_count p + lits)
 
 -- the problem is greater than a machine may hold
 abbrev pub is_past : Problem → Bool
-is_past p = nat_lt max_var p.vars || nat_lt most_clauses (clause_count p) || nat_lt most_lits (lit_count p)
+is_past p = nat_lt max_var p.vars || nat_lt most_clauses (clause_count p)
+    || nat_lt most_lits (lit_count p)
 
 -- Limit: the call would pass a limit
 abbrev pub is_beyond : State → Call → Bool
@@ -99,7 +103,8 @@ is_beyond s (Vars k) = nat_lt max_var k
 is_beyond s (Add c) = is_full s.problem c (length c)
 is_beyond s NewGuard = (length s.problem.freed == 0) && nat_le max_var s.problem.vars
 is_beyond s (Under gs c) = is_full s.problem c (as_given (record { guards = gs; clause = c }))
-is_beyond s (Assume ls) = nat_lt max_var (top ls) || nat_lt most_pending (length s.pending + length ls)
+is_beyond s (Assume ls) = nat_lt max_var (top ls)
+    || nat_lt most_pending (length s.pending + length ls)
 is_beyond s Test = nat_le most_scopes (length s.scopes)
 is_beyond s (Start budget) = nat_le most_solves s.serial
 is_beyond s (LoadCnf bytes) = is_past (with_file (loaded bytes) s.problem)

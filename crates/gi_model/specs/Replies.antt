@@ -38,7 +38,8 @@ waited solve = status_of solve
 -- the true literal of each problem variable from v on, rising
 unfoldable pub model_from : Problem → ℕ → List Bool → List ℕ
 model_from p v [] = []
-model_from p v (b ∷ bs) = if is_problem_var p v then (if b then 2 * v else 2 * v + 1) ∷ model_from p (v + 1) bs else model_from p (v + 1) bs
+model_from p v (b ∷ bs) = if is_problem_var p v
+    then (if b then 2 * v else 2 * v + 1) ∷ model_from p (v + 1) bs else model_from p (v + 1) bs
 
 -- the true literal of each problem variable, rising
 abbrev pub model_of : Problem → List Bool → List ℕ

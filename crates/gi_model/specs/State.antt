@@ -15,7 +15,8 @@ pub record Scope : Type 0 where
   pub assumed : List ℕ
   pub found : Found
 
--- a solve under way: its serial, its assumptions, how many clauses it may learn, how many it has learnt, and in how many slices of work
+-- a solve under way: its serial, its assumptions, how many clauses it may learn, how many it has
+-- learnt, and in how many slices of work
 pub record Run : Type 0 where
   pub serial : ℕ
   pub assumed : List ℕ
@@ -47,7 +48,15 @@ pub record State : Type 0 where
 
 -- a new machine
 abbrev pub opening : State
-opening = record { problem = empty_problem; known = []; pending = []; scopes = []; solve = no_solve; serial = 0; life = alive }
+opening = record {
+  problem = empty_problem;
+  known = [];
+  pending = [];
+  scopes = [];
+  solve = no_solve;
+  serial = 0;
+  life = alive;
+}
 
 -- what want of memory leaves
 abbrev pub dead_state : State

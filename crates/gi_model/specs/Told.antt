@@ -11,7 +11,8 @@ use Rattle.gi_model.specs.declared.replies.Reply.TheVariants as reply
 use Rattle.gi_model.specs.declared.replies.Verdict.TheVariants.{Unknown}
 use Rattle.gi_model.specs.declared.replies.Cause.TheVariants.{Budget}
 
--- after one more entry: news are learnt, a start trims, a dropped guard takes the clauses that name it, and want of memory takes all
+-- after one more entry: news are learnt, a start trims, a dropped guard takes the clauses that name
+-- it, and want of memory takes all
 abbrev pub known_on : List (List ℕ) → Call → Reply → List (List ℕ)
 known_on known call reply.NoMemory = []
 known_on known call (reply.Worked news now) = known ++ news
@@ -35,7 +36,8 @@ unfoldable pub told_spent : ℕ → List Entry → ℕ
 told_spent spent [] = spent
 told_spent spent (e ∷ es) = told_spent (spent_on spent e.reply) es
 
--- so much is what a solve under way has spent, and what one that ran out of budget had for its budget
+-- so much is what a solve under way has spent, and what one that ran out of budget had for its
+-- budget
 abbrev pub HasSpent : Solve → ℕ → Type 0
 HasSpent no_solve n = Unit {0}
 HasSpent (running r) n = r.spent ≡ n

@@ -9,7 +9,13 @@ use Rattle.gi_model.specs.declared.life.Life.{Life as LifeCode}
 use Rattle.gi_model.specs.declared.life.Life.TheVariants as life
 
 abbrev pub run_of : RunCode → Run
-run_of r = record { serial = r.serial; assumed = r.assumed; budget = r.budget; spent = r.spent; slices = r.slices }
+run_of r = record {
+  serial = r.serial;
+  assumed = r.assumed;
+  budget = r.budget;
+  spent = r.spent;
+  slices = r.slices;
+}
 
 abbrev pub solve_of : SolveCode → Solve
 solve_of solve.Idle = no_solve

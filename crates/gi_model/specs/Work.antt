@@ -16,19 +16,24 @@ use Rattle.gi_model.specs.declared.replies.Cause.TheVariants.{Stopped, Budget}
 abbrev pub IsSpent : Run → List (List ℕ) → Type 0
 IsSpent r news = (r.spent + length news ≡ r.budget) × EndsNonempty news
 
--- how a slice may leave its solve: stopped exactly where the mark is at its serial, else out of budget exactly where it is spent
+-- how a slice may leave its solve: stopped exactly where the mark is at its serial, else out of
+-- budget exactly where it is spent
 abbrev pub EndsWork : State → Run → ℕ → List (List ℕ) → Now → Type 0
 EndsWork s r mark news (Ended (Unknown (Stopped k))) = (r.serial ≤ mark) × (k ≡ mark)
-EndsWork s r mark news (Ended (Unknown (Budget b))) = (mark < r.serial) × IsSpent r news × (b ≡ r.budget)
-EndsWork s r mark news (Ended (Sat values)) = (mark < r.serial) × ¬ IsSpent r news × IsModel s.problem r.assumed values
-EndsWork s r mark news (Ended (Unsat w)) = (mark < r.serial) × ¬ IsSpent r news × IsFailing s.problem r.assumed (s.known ++ news) w
+EndsWork s r mark news (Ended (Unknown (Budget b))) = (mark < r.serial) × IsSpent r news
+    × (b ≡ r.budget)
+EndsWork s r mark news (Ended (Sat values)) = (mark < r.serial) × ¬ IsSpent r news
+    × IsModel s.problem r.assumed values
+EndsWork s r mark news (Ended (Unsat w)) = (mark < r.serial) × ¬ IsSpent r news
+    × IsFailing s.problem r.assumed (s.known ++ news) w
 EndsWork s r mark news Live = (mark < r.serial) × ¬ IsSpent r news × EndsNonempty news
 
 -- no more clauses than 32 times the Luby number at that place, from 1
 abbrev pub IsPaced : ℕ → List (List ℕ) → Type 0
 IsPaced place news = (n : ℕ) × IsLuby place n × (length news ≤ 32 * n)
 
--- a slice: few new clauses, by the place of the slice among those of its solve, each fresh and derived, within what is left of the budget, and one of the five ends
+-- a slice: few new clauses, by the place of the slice among those of its solve, each fresh and
+-- derived, within what is left of the budget, and one of the five ends
 pub record Works (s : State) (r : Run) (mark : ℕ) (news : List (List ℕ)) (now : Now) : Type 0 where
   pub few : length news ≤ most_news
   pub paced : IsPaced (r.slices + 1) news

@@ -43,8 +43,8 @@ pub enum Call {
     Known,
     /// The learnt clause of that number, from 1, the oldest first.
     KnownClause(u32),
-    /// The variables and clauses of a DIMACS CNF file of these bytes, as plain ones: all of them, or none
-    /// where the call is refused.
+    /// The variables and clauses of a DIMACS CNF file of these bytes, as plain ones: all of them,
+    /// or none where the call is refused.
     LoadCnf(Bytes),
     /// The caller takes its leave.
     Bye,
@@ -57,8 +57,9 @@ pub enum Call {
 impl Call {
     ghost use Rattle.gi_model.specs.Fits.{fits};
 
-    /// Whether a caller may make this call: any but a clause under no guard, a solve with no budget, a payload
-    /// of more than `MAX_PAYLOAD` bytes, and but `Work`, which the machine's own workers alone enter.
+    /// Whether a caller may make this call: any but a clause under no guard, a solve with no
+    /// budget, a payload of more than `MAX_PAYLOAD` bytes, and but `Work`, which the machine's own
+    /// workers alone enter.
     pub fn fits(&self) -> bool
         ensures { result ≡ fits self.now }
     {

@@ -10,7 +10,7 @@ ghost use Rattle.gi_model.specs.History.{is_load};
 use crate::calls::Call;
 use crate::facts::Facts;
 use crate::limits::{MAX_PENDING, MAX_SCOPES, MAX_SOLVES};
-use crate::lists::has_lit;
+use crate::lists::{count_given, has_lit};
 use gi_lit::{Lit, MAX_VAR, Var, top_variable};
 
 /// Whether two counts together are too many pending assumptions.
@@ -21,13 +21,6 @@ fn too_many(a: usize, b: usize) -> bool
         None => true,
         Some(n) => n > MAX_PENDING,
     }
-}
-
-/// How many literals a clause under guards has as given: its own, and one for each guard after the first.
-fn count_given(guards: &[Var], clause: &[Lit]) -> u128
-    ensures { result ≡ length clause.now + (length guards.now - 1) }
-{
-    clause.len() as u128 + guards.len().saturating_sub(1) as u128
 }
 
 /// Whether it is the positive literal of an active guard.
@@ -45,7 +38,8 @@ fn some_unusable<F: Facts>(facts: &F, lits: &[Lit]) -> bool
 }
 
 fn some_unassumable<F: Facts>(facts: &F, lits: &[Lit]) -> bool
-    ensures { result ≡ list_any (λ l. not (is_usable (F.state facts.now).problem l || is_guard_lit (F.state facts.now).problem l)) lits.now }
+    ensures { result ≡ list_any (λ l. not (is_usable (F.state facts.now).problem l
+        || is_guard_lit (F.state facts.now).problem l)) lits.now }
 {
     lits.iter()
         .any(|l| !(facts.is_usable(*l) || is_guard_lit(facts, *l)))

@@ -52,7 +52,8 @@ pub trait Facts {
 
     /// Whether no guard is left to hand out.
     fn lacks_guard(&self) -> bool
-        ensures { result ≡ ((length (state self.now).problem.freed == 0) && nat_le max_var (state self.now).problem.vars) };
+        ensures { result ≡ ((length (state self.now).problem.freed == 0)
+            && nat_le max_var (state self.now).problem.vars) };
 
     /// Whether one clause more, of these literals and with so many as given, would be too much.
     fn is_full(&self, clause: &[Lit], lits: u128) -> bool

@@ -11,17 +11,9 @@ impl Call {
         ensures { result ≡ while_running self.now }
     {
         match self {
-            Call::Pause => true,
-            Call::Resume => true,
-            Call::Stop => true,
-            Call::Poll => true,
-            Call::Wait => true,
-            Call::Model => true,
-            Call::Known => true,
-            Call::KnownClause(_) => true,
-            Call::Reasons(_) => true,
-            Call::Bye => true,
-            Call::Shut => true,
+            Call::Pause | Call::Resume | Call::Stop | Call::Poll | Call::Wait => true,
+            Call::Model | Call::Known | Call::KnownClause(_) | Call::Reasons(_) => true,
+            Call::Bye | Call::Shut => true,
             _ => false,
         }
     }
@@ -31,11 +23,9 @@ impl Call {
         ensures { result ≡ while_paused self.now }
     {
         match self {
-            Call::Vars(_) => true,
-            Call::Add(_) => true,
+            Call::Vars(_) | Call::Add(_) => true,
             Call::NewGuard => true,
-            Call::Under(_, _) => true,
-            Call::DropGuard(_) => true,
+            Call::Under(_, _) | Call::DropGuard(_) => true,
             _ => self.while_running(),
         }
     }
@@ -45,11 +35,7 @@ impl Call {
         ensures { result ≡ needs_solve self.now }
     {
         match self {
-            Call::Pause => true,
-            Call::Resume => true,
-            Call::Stop => true,
-            Call::Poll => true,
-            Call::Wait => true,
+            Call::Pause | Call::Resume | Call::Stop | Call::Poll | Call::Wait => true,
             _ => false,
         }
     }

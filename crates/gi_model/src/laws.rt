@@ -11,8 +11,8 @@ pub fn histories_are_kept()
     ensures implied { KnownIsImplied }
 {}
 
-/// What was learnt is the news of all work in order, less what a start or a drop took away; and what a
-/// solve has spent is the number of its news.
+/// What was learnt is the news of all work in order, less what a start or a drop took away; and
+/// what a solve has spent is the number of its news.
 pub fn learnt_clauses_are_told()
     ensures known { KnownIsTold }
     ensures spent { SpentIsTold }
@@ -47,8 +47,9 @@ pub fn histories_go_on()
     ensures state { StatesGoOn }
 {}
 
-/// While no edit is accepted a solve over n variables learns at most 3^n clauses, to its end; at most 3^n slices
-/// of work leave it live; and with a greater budget it never ends for want of budget.
+/// While no edit is accepted a solve over n variables learns at most 3^n clauses, to its end; at
+/// most 3^n slices of work leave it live; and with a greater budget it never ends for want of
+/// budget.
 pub fn solves_are_short()
     ensures { SolvesAreShort }
 {}

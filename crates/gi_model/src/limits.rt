@@ -3,7 +3,8 @@
 /// The most clauses, plain ones and those under guards together.
 pub const MAX_CLAUSES: u64 = 4_194_304;
 
-/// The most literals of clauses, as given: those of a clause under guards, and one for each guard after the first.
+/// The most literals of clauses, as given: those of a clause under guards, and one for each guard
+/// after the first.
 pub const MAX_LITS: u64 = 67_108_864;
 
 /// The most pending assumptions.

@@ -1,6 +1,6 @@
 //! Small helpers over lists of literals.
 
-ghost use Rattle.std.specs.Prelude.{◌≡◌, ◌++◌, OnOk};
+ghost use Rattle.std.specs.Prelude.{◌≡◌, ◌+◌, ◌-◌, ◌++◌, length, OnOk};
 ghost use Rattle.gi_lit.specs.Problem.{has, names};
 
 use gi_lit::{Lit, Lits, Var};
@@ -30,4 +30,12 @@ pub fn append(to: &mut Lits, lits: &[Lit]) -> Result<(), AllocError>
         to.push(*l)?;
     }
     Ok(())
+}
+
+/// How many literals a clause under guards has as given: its own, and one for each guard after the
+/// first.
+pub fn count_given(guards: &[Var], clause: &[Lit]) -> u128
+    ensures { result ≡ length clause.now + (length guards.now - 1) }
+{
+    clause.len() as u128 + guards.len().saturating_sub(1) as u128
 }

@@ -41,8 +41,8 @@ pub enum Refusal {
     NoModel,
     /// There is no learnt clause of that number.
     NoClause,
-    /// The payload isn't in its grammar: its first line that is wrong, counted from 1, and how. The gate is
-    /// 0 but for binary circuits.
+    /// The payload isn't in its grammar: its first line that is wrong, counted from 1, and how. The
+    /// gate is 0 but for binary circuits.
     Payload {
         line: u64,
         gate: u32,

@@ -22,7 +22,13 @@ impl Run {
 
     /// A solve that has learnt nothing so far.
     pub fn new(serial: u64, assumed: Lits, budget: u32) -> Run
-        ensures { run_of result ≡ record { serial = serial; assumed = assumed; budget = budget; spent = 0; slices = 0 } }
+        ensures { run_of result ≡ record {
+          serial = serial;
+          assumed = assumed;
+          budget = budget;
+          spent = 0;
+          slices = 0;
+        } }
     {
         Run {
             serial,
@@ -37,7 +43,10 @@ impl Run {
     pub fn go_on(self, news: u32) -> Run
         requires some { 1 ≤ news }
         requires within { self.spent + news ≤ self.budget }
-        ensures { run_of result ≡ record (run_of self) { spent = self.spent + news; slices = self.slices + 1 } }
+        ensures { run_of result ≡ record (run_of self) {
+          spent = self.spent + news;
+          slices = self.slices + 1;
+        } }
     {
         Run {
             serial: self.serial,

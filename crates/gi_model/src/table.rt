@@ -32,8 +32,8 @@ pub fn is_live<F: Facts>(facts: &F) -> bool
     }
 }
 
-/// The refusal that the table names: the first whose condition holds. Of a call with a payload, only those
-/// that come before the payload is read.
+/// The refusal that the table names: the first whose condition holds. Of a call with a payload,
+/// only those that come before the payload is read.
 pub fn refusal_of<F: Facts>(facts: &F, call: &Call) -> Option<Refusal>
     ensures { result ≡ early (F.state facts.now) call.now }
 {
