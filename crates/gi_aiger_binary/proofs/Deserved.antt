@@ -36,7 +36,7 @@ symbols_are : (v : Aig) (ss before : List Symbol) → All (good.IsTitle (said.he
 symbols_are v [] before titles new = tt
 symbols_are v (s ∷ ss) before titles new =
     let t : good.IsTitle (said.head_of_aig Ascii v) s = titles 0 s (omega arith) in
-    (record { there = t.place; some = t.name; plain = t.plain }, new.0, symbols_are v ss (before ++ s ∷ []) (All-tail (good.IsTitle (said.head_of_aig Ascii v)) s ss titles) new.1)
+    (record { place = t.place; name = t.name; plain = t.plain }, new.0, symbols_are v ss (before ++ s ∷ []) (All-tail (good.IsTitle (said.head_of_aig Ascii v)) s ss titles) new.1)
 
 module _ (v : Aig) (g : good.IsGood v) where
   abbrev s : said.IsSound v

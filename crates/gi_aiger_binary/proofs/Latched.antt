@@ -1,5 +1,5 @@
 -- The lines of latches in the binary form, and what the lines of each section say together.
-use Rattle.std.proofs.Common.{◌≡◌, ℕ, suc, ◌+◌, ◌*◌, ◌≤◌, true, List, [], ◌∷◌, ◌++◌, length, map, decimal, Option, Some, Result, Ok, ap, sym, ◌∙◌, append_assoc, length-append, arith}
+use Rattle.std.proofs.Common.{◌≡◌, ℕ, suc, ◌+◌, ◌*◌, ◌≤◌, true, List, [], ◌∷◌, ◌++◌, length, map, decimal, Option, Some, Result, Ok, refl, ap, sym, ◌∙◌, append_assoc, length-append, arith}
 use Rattle.std.specs.List.{flat_map}
 use Rattle.std.proofs.lemmas.List.{append-nil}
 use Rattle.gi_aiger.specs.declared.aig.Aig.{Aig}
@@ -50,30 +50,35 @@ module _ (v : Aig) (limit : length v.inputs + length v.latches + length v.gates 
       let m : suc (length v.inputs + length t.latches + 1) ≡ length v.inputs + length (t.latches ++ l ∷ []) + 1 = omega (arith, n) in
       (plain_latch l lit within.0, one_latch t l own lit within.0, all_latches (with_row t (rows.Latch l)) ls (rest ∙ ap (λ (k : ℕ). evens_from k (length ls)) m) (omega (arith, n, le)) within.1)
 
--- what the lines of a section say together
-pub takes_latches : (t : Taken) (ls : List Latch) → takes rows.Latch t ls ≡ record t { latches = t.latches ++ ls }
-takes_latches t [] = ap (λ (xs : List Latch). record t { latches = xs }) (sym (append-nil t.latches))
-takes_latches t (l ∷ ls) = takes_latches (with_row t (rows.Latch l)) ls ∙ ap (λ (xs : List Latch). record t { latches = xs }) (append_assoc t.latches (l ∷ []) ls)
+-- what the lines of a section say together, where each adds one item to a list
+takes_list : {X : Type 0} (row : X → Row) (list : Taken → List X) (put : Taken → List X → Taken) → ((t : Taken) → put t (list t) ≡ t) → ((t : Taken) (x : X) → with_row t (row x) ≡ put t (list t ++ x ∷ []))
+    → ((t : Taken) (xs : List X) → list (put t xs) ≡ xs) → ((t : Taken) (xs ys : List X) → put (put t xs) ys ≡ put t ys) → (t : Taken) (xs : List X) → takes row t xs ≡ put t (list t ++ xs)
+takes_list row list put here one got again t [] = sym (ap (put t) (append-nil (list t)) ∙ here t)
+takes_list row list put here one got again t (x ∷ xs) =
+    let front = list t ++ x ∷ [] in
+    ap (λ (u : Taken). takes row u xs) (one t x)
+    ∙ takes_list row list put here one got again (put t front) xs
+    ∙ again t front (list (put t front) ++ xs)
+    ∙ ap (λ ys. put t (ys ++ xs)) (got t front)
+    ∙ ap (put t) (append_assoc (list t) (x ∷ []) xs)
 
-pub takes_outs : (t : Taken) (ls : List ℕ) → takes rows.Out t ls ≡ record t { outs = t.outs ++ ls }
-takes_outs t [] = ap (λ (xs : List ℕ). record t { outs = xs }) (sym (append-nil t.outs))
-takes_outs t (l ∷ ls) = takes_outs (with_row t (rows.Out l)) ls ∙ ap (λ (xs : List ℕ). record t { outs = xs }) (append_assoc t.outs (l ∷ []) ls)
+pub takes_latches : (t : Taken) (xs : List Latch) → takes rows.Latch t xs ≡ record t { latches = t.latches ++ xs }
+takes_latches t xs = takes_list rows.Latch (λ t. t.latches) (λ t xs. record t { latches = xs }) (λ t. refl) (λ t x. refl) (λ t xs. refl) (λ t xs ys. refl) t xs
 
-pub takes_bads : (t : Taken) (ls : List ℕ) → takes rows.Bad t ls ≡ record t { bads = t.bads ++ ls }
-takes_bads t [] = ap (λ (xs : List ℕ). record t { bads = xs }) (sym (append-nil t.bads))
-takes_bads t (l ∷ ls) = takes_bads (with_row t (rows.Bad l)) ls ∙ ap (λ (xs : List ℕ). record t { bads = xs }) (append_assoc t.bads (l ∷ []) ls)
+pub takes_outs : (t : Taken) (xs : List ℕ) → takes rows.Out t xs ≡ record t { outs = t.outs ++ xs }
+takes_outs t xs = takes_list rows.Out (λ t. t.outs) (λ t xs. record t { outs = xs }) (λ t. refl) (λ t x. refl) (λ t xs. refl) (λ t xs ys. refl) t xs
 
-pub takes_cons : (t : Taken) (ls : List ℕ) → takes rows.Con t ls ≡ record t { cons = t.cons ++ ls }
-takes_cons t [] = ap (λ (xs : List ℕ). record t { cons = xs }) (sym (append-nil t.cons))
-takes_cons t (l ∷ ls) = takes_cons (with_row t (rows.Con l)) ls ∙ ap (λ (xs : List ℕ). record t { cons = xs }) (append_assoc t.cons (l ∷ []) ls)
+pub takes_bads : (t : Taken) (xs : List ℕ) → takes rows.Bad t xs ≡ record t { bads = t.bads ++ xs }
+takes_bads t xs = takes_list rows.Bad (λ t. t.bads) (λ t xs. record t { bads = xs }) (λ t. refl) (λ t x. refl) (λ t xs. refl) (λ t xs ys. refl) t xs
 
-pub takes_justice : (t : Taken) (ls : List ℕ) → takes rows.Justice t ls ≡ record t { justice = t.justice ++ ls }
-takes_justice t [] = ap (λ (xs : List ℕ). record t { justice = xs }) (sym (append-nil t.justice))
-takes_justice t (l ∷ ls) = takes_justice (with_row t (rows.Justice l)) ls ∙ ap (λ (xs : List ℕ). record t { justice = xs }) (append_assoc t.justice (l ∷ []) ls)
+pub takes_cons : (t : Taken) (xs : List ℕ) → takes rows.Con t xs ≡ record t { cons = t.cons ++ xs }
+takes_cons t xs = takes_list rows.Con (λ t. t.cons) (λ t xs. record t { cons = xs }) (λ t. refl) (λ t x. refl) (λ t xs. refl) (λ t xs ys. refl) t xs
 
-pub takes_fair : (t : Taken) (ls : List ℕ) → takes rows.Fair t ls ≡ record t { fair = t.fair ++ ls }
-takes_fair t [] = ap (λ (xs : List ℕ). record t { fair = xs }) (sym (append-nil t.fair))
-takes_fair t (l ∷ ls) = takes_fair (with_row t (rows.Fair l)) ls ∙ ap (λ (xs : List ℕ). record t { fair = xs }) (append_assoc t.fair (l ∷ []) ls)
+pub takes_justice : (t : Taken) (xs : List ℕ) → takes rows.Justice t xs ≡ record t { justice = t.justice ++ xs }
+takes_justice t xs = takes_list rows.Justice (λ t. t.justice) (λ t xs. record t { justice = xs }) (λ t. refl) (λ t x. refl) (λ t xs. refl) (λ t xs ys. refl) t xs
+
+pub takes_fair : (t : Taken) (xs : List ℕ) → takes rows.Fair t xs ≡ record t { fair = t.fair ++ xs }
+takes_fair t xs = takes_list rows.Fair (λ t. t.fair) (λ t xs. record t { fair = xs }) (λ t. refl) (λ t x. refl) (λ t xs. refl) (λ t xs ys. refl) t xs
 
 pub takes_sizes : (t : Taken) (lists : List (List ℕ)) → takes (λ (p : List ℕ). rows.Size (length p)) t lists ≡ record t { sizes = t.sizes ++ map (λ (p : List ℕ). length p) lists; total = t.total + length (flat_map (λ p. p) lists) }
 takes_sizes t [] = ap (λ (xs : List ℕ). record t { sizes = xs }) (sym (append-nil t.sizes)) ∙ ap (λ (n : ℕ). record t { sizes = t.sizes ++ []; total = n }) (let e : t.total ≡ t.total + 0 = omega arith in e)

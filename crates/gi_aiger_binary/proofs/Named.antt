@@ -20,7 +20,8 @@ use Rattle.gi_aiger.specs.Named.{is_named, named_by, add_symbol}
 use Rattle.gi_aiger.specs.Files.{whole, begins_comment, then_symbols, read_symbols}
 use Rattle.gi_aiger.specs.Texts.{symbol_line, comment_text}
 use Rattle.gi_aiger.proofs.Lining.{joined_lines, plain_cons, bare_whole}
-use Rattle.gi_aiger_binary.specs.Numbered.{IsSymbolOf, AreSymbols}
+use Rattle.gi_aiger.specs.Good.{IsTitle}
+use Rattle.gi_aiger_binary.specs.Numbered.{AreSymbols}
 use Rattle.gi_aiger_binary.proofs.Counts.{both, no_space, decimal_digits, plain_append, plain_decimal}
 use Rattle.gi_aiger_binary.proofs.Rowed.{line_first}
 use Rattle.gi_aiger.specs.Limits.{most_items}
@@ -50,30 +51,30 @@ no_comment kind (d ∷ ds) more h some =
     and_false false = refl
 
 module _ (h : Head) (limit : (kind : ℕ) → places_of h kind ≤ most_items) where
-  no_end : (s : Symbol) → IsSymbolOf h s → (s.kind == 10) ≡ false
+  no_end : (s : Symbol) → IsTitle h s → (s.kind == 10) ≡ false
   no_end s is = elim (cases_eq s.kind 10) [
-    | inl e ↦ (let none : s.place < 0 = subst (λ (kind : ℕ). s.place < places_of h kind) e is.there in absurd (omega arith))
+    | inl e ↦ (let none : s.place < 0 = subst (λ (kind : ℕ). s.place < places_of h kind) e is.place in absurd (omega arith))
     | inr ne ↦ ne_eqb s.kind 10 ne
   ]
 
-  place_small : (s : Symbol) → IsSymbolOf h s → s.place < 2 ^ 64
-  place_small s is = let l = limit s.kind in omega (arith, l, is.there)
+  place_small : (s : Symbol) → IsTitle h s → s.place < 2 ^ 64
+  place_small s is = let l = limit s.kind in omega (arith, l, is.place)
 
-  plain_word : (s : Symbol) → IsSymbolOf h s → is_plain (word s) ≡ true
+  plain_word : (s : Symbol) → IsTitle h s → is_plain (word s) ≡ true
   plain_word s is = plain_cons s.kind ((decimal s.place ++ 32 ∷ []) ++ s.name) (no_end s is) (plain_append (decimal s.place ++ 32 ∷ []) s.name (plain_append (decimal s.place) (32 ∷ []) (plain_decimal s.place (place_small s is)) refl) is.plain)
 
-  symbol_is : (s : Symbol) → IsSymbolOf h s → symbol_of h (word s) ≡ Some s
+  symbol_is : (s : Symbol) → IsTitle h s → symbol_of h (word s) ≡ Some s
   symbol_is s is =
       ap (λ (xs : List ℕ). symbol_parts (places_of h s.kind) s.kind (split_space xs)) (append_assoc (decimal s.place) (32 ∷ []) s.name)
       ∙ ap (symbol_parts (places_of h s.kind) s.kind) (split_first (decimal s.place) s.name (decimal_digits s.place (place_small s is)))
       ∙ ap (λ (o : Option ℕ). symbol_named s.kind (place_in (places_of h s.kind) o) s.name) (magnitude-decimal s.place (place_small s is))
-      ∙ ap (λ (b : Bool). symbol_named s.kind (cond b (Some s.place) None) s.name) (lt-ltb s.place (places_of h s.kind) is.there)
-      ∙ ap (λ (b : Bool). cond b None (Some s)) (let some = is.some in ne_eqb (length s.name) 0 (λ e. omega arith))
+      ∙ ap (λ (b : Bool). symbol_named s.kind (cond b (Some s.place) None) s.name) (lt-ltb s.place (places_of h s.kind) is.place)
+      ∙ ap (λ (b : Bool). cond b None (Some s)) (let some = is.name in ne_eqb (length s.name) 0 (λ e. omega arith))
 
-  added : (s : Symbol) (before : List Symbol) → IsSymbolOf h s → is_named before s.kind s.place ≡ false → add_symbol h before (word s) ≡ Ok (before ++ s ∷ [])
+  added : (s : Symbol) (before : List Symbol) → IsTitle h s → is_named before s.kind s.place ≡ false → add_symbol h before (word s) ≡ Ok (before ++ s ∷ [])
   added s before is new = ap (λ (o : Option Symbol). named_by o before) (symbol_is s is) ∙ ap (λ (b : Bool). cond b (Err codes.Symbol) (Ok (before ++ s ∷ []))) new
 
-  line_read : (t : Taken) (s : Symbol) (before : List Symbol) (k : ℕ) (ls : List (List ℕ)) → IsSymbolOf h s → is_named before s.kind s.place ≡ false → read_symbols h k t before ((word s ++ 10 ∷ []) ∷ ls) ≡ read_symbols h (k + 1) t (before ++ s ∷ []) ls
+  line_read : (t : Taken) (s : Symbol) (before : List Symbol) (k : ℕ) (ls : List (List ℕ)) → IsTitle h s → is_named before s.kind s.place ≡ false → read_symbols h k t before ((word s ++ 10 ∷ []) ∷ ls) ≡ read_symbols h (k + 1) t (before ++ s ∷ []) ls
   unfolding read_symbols
   line_read t s before k ls is new =
       rw (no_comment s.kind (decimal s.place) s.name (decimal_digits s.place (place_small s is)) (decimal_nonempty s.place (place_small s is)))

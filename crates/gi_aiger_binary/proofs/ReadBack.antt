@@ -21,7 +21,8 @@ use Rattle.gi_aiger.specs.Lines.{lines_of}
 use Rattle.gi_aiger.specs.Sections.{left_in, sections_of}
 use Rattle.gi_aiger.specs.Symbols.{places_of}
 use Rattle.gi_aiger.specs.Texts.{count_text, further_text, number_line, number_lines, symbol_line, comment_text}
-use Rattle.gi_aiger.specs.Files.{Told, shares, aig_of, whole, read_gates, read_sections, evens, begin, after_header, read_lines, read_file}
+use Rattle.gi_aiger.specs.Evens.{evens}
+use Rattle.gi_aiger.specs.Files.{Told, shares, aig_of, whole, read_gates, read_sections, begin, after_header, read_lines, read_file}
 use Rattle.gi_aiger.proofs.Lining.{joined_lines, bare_whole}
 use Rattle.gi_aiger_binary.specs.Texts.{head_text, latch_line, gate_text, binary_text}
 use Rattle.gi_aiger_binary.specs.Numbered.{evens_from, IsFalling, IsNumbered, IsInLimits, AreWithin, head_of_aig}

@@ -4,7 +4,8 @@ use Rattle.std.specs.Prelude.{ℕ, zero, suc, ◌+◌, ◌/◌, ◌%◌, nat_lt,
 -- in one group more than this at most
 unfoldable pub groups_within : ℕ → ℕ → List ℕ
 groups_within zero n = n ∷ []
-groups_within (suc more) n = if nat_lt n 128 then n ∷ [] else (n % 128 + 128) ∷ groups_within more (n / 128)
+groups_within (suc more) n = if nat_lt n 128 then n ∷ []
+    else (n % 128 + 128) ∷ groups_within more (n / 128)
 
 -- the shortest spelling
 unfoldable pub groups_of : ℕ → List ℕ

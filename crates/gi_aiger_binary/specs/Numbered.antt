@@ -7,8 +7,8 @@ use Rattle.gi_aiger.specs.declared.aig.Latch.{Latch}
 use Rattle.gi_aiger.specs.declared.aig.Symbol.{Symbol}
 use Rattle.gi_aiger.specs.declared.head.Form.TheVariants.{Binary}
 use Rattle.gi_aiger.specs.declared.head.Head.{Head}
-use Rattle.gi_aiger.specs.Lines.{is_plain}
-use Rattle.gi_aiger.specs.Symbols.{places_of}
+use Rattle.gi_aiger.specs.Good.{IsTitle}
+use Rattle.gi_aiger.specs.Relation as said
 use Rattle.gi_aiger.specs.Named.{is_named}
 use Rattle.gi_aiger.specs.Limits.{most_items}
 
@@ -29,8 +29,10 @@ IsFalling g = (g.rhs0 < g.lhs) × (g.rhs1 ≤ g.rhs0)
 pub record IsNumbered (w : Aig) : Type 0 where
   pub max : w.max ≡ length w.inputs + length w.latches + length w.gates
   pub inputs : w.inputs ≡ evens_from 1 (length w.inputs)
-  pub latches : map (λ (l : Latch). l.lit) w.latches ≡ evens_from (length w.inputs + 1) (length w.latches)
-  pub gates : map (λ (g : AndGate). g.lhs) w.gates ≡ evens_from (length w.inputs + length w.latches + 1) (length w.gates)
+  pub latches : map (λ (l : Latch). l.lit) w.latches
+      ≡ evens_from (length w.inputs + 1) (length w.latches)
+  pub gates : map (λ (g : AndGate). g.lhs) w.gates
+      ≡ evens_from (length w.inputs + length w.latches + 1) (length w.gates)
   pub falling : AllByRecursion IsFalling w.gates
   pub nexts : AreWithin w.max (map (λ (l : Latch). l.next) w.latches)
   pub outs : AreWithin w.max w.outs
@@ -39,31 +41,18 @@ pub record IsNumbered (w : Aig) : Type 0 where
   pub justice : AreWithin w.max (flat_map (λ p. p) w.justice)
   pub fair : AreWithin w.max w.fair
 
--- the counts of a value
+-- the counts of a value; its variables are those of its inputs, latches and gates
 abbrev pub head_of_aig : Aig → Head
-head_of_aig v = record {
-  form = Binary;
-  max = length v.inputs + length v.latches + length v.gates;
-  inputs = length v.inputs;
-  latches = length v.latches;
-  outs = length v.outs;
-  gates = length v.gates;
-  bads = length v.bads;
-  cons = length v.cons;
-  justice = length v.justice;
-  fair = length v.fair;
+head_of_aig v = record (said.head_of_aig Binary v) {
+  max = length v.inputs + length v.latches
+      + length v.gates;
 }
-
--- a symbol names what is there, by one byte at least and without LF
-pub record IsSymbolOf (h : Head) (s : Symbol) : Type 0 where
-  pub there : s.place < places_of h s.kind
-  pub some : 0 < length s.name
-  pub plain : is_plain s.name ≡ true
 
 -- symbols behind others, no two of the same kind and place
 abbrev pub AreSymbols : Head → List Symbol → List Symbol → Type 0
 AreSymbols h before [] = Unit {0}
-AreSymbols h before (s ∷ ss) = IsSymbolOf h s × (is_named before s.kind s.place ≡ false) × AreSymbols h (before ++ s ∷ []) ss
+AreSymbols h before (s ∷ ss) = IsTitle h s × (is_named before s.kind s.place ≡ false)
+    × AreSymbols h (before ++ s ∷ []) ss
 
 -- the counts are within the limits, and the symbols are in order
 pub record IsInLimits (v : Aig) : Type 0 where

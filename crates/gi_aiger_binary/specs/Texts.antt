@@ -1,10 +1,10 @@
 -- The texts of values in the binary form.
-use Rattle.std.specs.Prelude.{ℕ, ◌-◌, List, [], ◌∷◌, ◌++◌, length, decimal}
+use Rattle.std.specs.Prelude.{ℕ, ◌-◌, List, [], ◌∷◌, ◌++◌, decimal}
 use Rattle.std.specs.List.{flat_map}
 use Rattle.gi_aiger.specs.declared.aig.Aig.{Aig}
 use Rattle.gi_aiger.specs.declared.aig.AndGate.{AndGate}
 use Rattle.gi_aiger.specs.declared.aig.Latch.{Latch}
-use Rattle.gi_aiger.specs.Texts.{head_by, number_line, number_lines, reset_text, symbol_line, comment_text}
+use Rattle.gi_aiger.specs.Texts.{head_by, reset_text, with_names, with_properties}
 use Rattle.gi_aiger_binary.specs.Differences.{groups_of}
 
 -- the header: `aig`, and the counts up to the last further one that isn't 0
@@ -19,14 +19,10 @@ latch_line l = (decimal l.next ++ reset_text l.lit l.reset) ++ 10 ∷ []
 abbrev pub gate_text : AndGate → List ℕ
 gate_text g = groups_of (g.lhs - g.rhs0) ++ groups_of (g.rhs0 - g.rhs1)
 
--- the lines up to the justice sizes
-abbrev pub front_text : Aig → List ℕ
-front_text v = (((head_text v ++ flat_map latch_line v.latches) ++ number_lines v.outs) ++ number_lines v.bads) ++ number_lines v.cons
-
 -- all lines before the gates
 abbrev pub lines_text : Aig → List ℕ
-lines_text v = ((front_text v ++ flat_map (λ p. number_line (length p)) v.justice) ++ flat_map number_lines v.justice) ++ number_lines v.fair
+lines_text v = with_properties (head_text v ++ flat_map latch_line v.latches) v
 
 -- the text of a value: its lines, its gates, its symbols and its comment
 unfoldable pub binary_text : Aig → List ℕ
-binary_text v = ((lines_text v ++ flat_map gate_text v.gates) ++ flat_map symbol_line v.symbols) ++ comment_text v.comment
+binary_text v = with_names (lines_text v ++ flat_map gate_text v.gates) v

@@ -11,7 +11,8 @@ use Rattle.gi_aiger_binary.specs.Texts.{binary_text}
 abbrev pub written : Aig → List ℕ
 written v = binary_text (numbered_anew v)
 
--- the bytes are a file of the binary form that says the value, numbered anew, and they are read as that
+-- the bytes are a file of the binary form that says the value, numbered anew, and they are read as
+-- that
 pub record AreReadBack (v : Aig) (bytes : List ℕ) : Type 0 where
   pub said : IsBinary (numbered_anew v) bytes
   pub read : Answer (read_file bytes) (Ok (numbered_anew v))

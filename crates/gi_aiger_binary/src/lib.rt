@@ -13,8 +13,3 @@ pub use laws::{
 };
 pub use renumbering::renumber;
 pub use writing::write_binary;
-
-#[cfg(test)]
-mod reading_tests;
-#[cfg(test)]
-mod tests;

@@ -11,7 +11,8 @@ use gi_lit::Edge;
 use std::alloc::{AllocError, Global};
 
 fn put_inputs(variables: &mut Vec<u32>, inputs: &[Edge]) -> Result<(), AllocError>
-    ensures { OnOk result (variables.new.items ≡ variables.old.items ++ map (λ l. l / 2) inputs.now) }
+    ensures { OnOk result (variables.new.items ≡ variables.old.items
+        ++ map (λ l. l / 2) inputs.now) }
 {
     for input in inputs {
         variables.push(input.node())?;
@@ -20,7 +21,8 @@ fn put_inputs(variables: &mut Vec<u32>, inputs: &[Edge]) -> Result<(), AllocErro
 }
 
 fn put_latches(variables: &mut Vec<u32>, latches: &[Latch]) -> Result<(), AllocError>
-    ensures { OnOk result (variables.new.items ≡ variables.old.items ++ map (λ (l : Latch). l.lit / 2) latches.now) }
+    ensures { OnOk result (variables.new.items ≡ variables.old.items
+        ++ map (λ (l : Latch). l.lit / 2) latches.now) }
 {
     for latch in latches {
         variables.push(latch.lit.node())?;
@@ -29,7 +31,8 @@ fn put_latches(variables: &mut Vec<u32>, latches: &[Latch]) -> Result<(), AllocE
 }
 
 fn put_gates(variables: &mut Vec<u32>, gates: &[AndGate]) -> Result<(), AllocError>
-    ensures { OnOk result (variables.new.items ≡ variables.old.items ++ map (λ (g : AndGate). g.lhs / 2) gates.now) }
+    ensures { OnOk result (variables.new.items ≡ variables.old.items
+        ++ map (λ (g : AndGate). g.lhs / 2) gates.now) }
 {
     for gate in gates {
         variables.push(gate.lhs.node())?;
@@ -45,8 +48,9 @@ pub(crate) fn variables_of(
 ) -> Result<Vec<u32>, AllocError>
     ensures { IfOk result (λ variables. variables.items ≡ variables_of aig.now gates.now) }
 {
+    let inputs = aig.inputs.listed(alloc)?;
     let mut variables = Vec::new(alloc);
-    put_inputs(&mut variables, aig.inputs.as_slice())?;
+    put_inputs(&mut variables, inputs.as_slice())?;
     put_latches(&mut variables, aig.latches.as_slice())?;
     put_gates(&mut variables, gates)?;
     Ok(variables)
@@ -54,7 +58,8 @@ pub(crate) fn variables_of(
 
 // A variable that has no number has this one; variable 0 has none.
 fn note(numbers: &mut Table<u32>, variable: u32, number: u32) -> Result<(), AllocError>
-    ensures { OnOk result ((x : ℕ) → value_of numbers.new x ≡ noted (value_of numbers.old) variable number x) }
+    ensures { OnOk result ((x : ℕ) → value_of numbers.new x
+        ≡ noted (value_of numbers.old) variable number x) }
 {
     if variable == 0 {
         return Ok(());

@@ -7,7 +7,8 @@ ghost use Rattle.gi_aiger_binary.specs.Sound.{IsWritable};
 
 use crate::numbers::{numbers_of, variables_of};
 use gi_aiger::{
-    Aig, AndGate, EdgeLists, Edges, Gates, Latch, Latches, Symbol, Symbols, Table, acyclic_places,
+    Aig, AndGate, EdgeLists, Edges, Gates, Inputs, Latch, Latches, Symbol, Symbols, Table,
+    acyclic_places,
 };
 use gi_lit::Edge;
 use gi_text::Bytes;
@@ -50,11 +51,20 @@ fn edges(alloc: Global, numbers: &Table<u32>, edges: &[Edge]) -> Result<Edges, A
     requires { (x : ℕ) → value_of numbers.now x < 2 ^ 31 }
     ensures { IfOk result (λ out. out ≡ map (literal_by (value_of numbers.now)) edges.now) }
 {
-    let mut out = Edges::new(alloc);
-    for edge in edges {
-        out.push(literal(numbers, *edge))?;
-    }
-    Ok(out)
+    let out: Vec<Edge> = edges
+        .iter()
+        .map(|edge| literal(numbers, *edge))
+        .collect(alloc)?;
+    Ok(Edges::from_vec(out))
+}
+
+fn inputs(alloc: Global, numbers: &Table<u32>, inputs: &Inputs) -> Result<Inputs, AllocError>
+    requires { (x : ℕ) → value_of numbers.now x < 2 ^ 31 }
+    ensures { IfOk result (λ out. out ≡ map (literal_by (value_of numbers.now)) inputs.now) }
+{
+    let literals = inputs.listed(alloc)?;
+    let out = edges(alloc, numbers, literals.as_slice())?;
+    Ok(Inputs::from_edges(out))
 }
 
 fn latches(alloc: Global, numbers: &Table<u32>, latches: &[Latch]) -> Result<Latches, AllocError>
@@ -144,7 +154,7 @@ fn numbered(
     requires { (x : ℕ) → value_of numbers.now x < 2 ^ 31 }
     ensures { IfOk result (λ w. w ≡ numbered_by (value_of numbers.now) max aig.now ordered.now) }
 {
-    let inputs = edges(alloc, numbers, aig.inputs.as_slice())?;
+    let inputs = inputs(alloc, numbers, &aig.inputs)?;
     let latches = latches(alloc, numbers, aig.latches.as_slice())?;
     let outs = edges(alloc, numbers, aig.outs.as_slice())?;
     let bads = edges(alloc, numbers, aig.bads.as_slice())?;
@@ -169,11 +179,13 @@ fn numbered(
     })
 }
 
-/// The same value with its variables numbered from 1: inputs in order, then latches in order, then gates by level and within a
-/// level in their order. A gate's level is one more than the greater level of its operands; what no gate defines has level 0.
-/// The greatest variable is the last one, a gate's greater operand comes first, and a variable that nothing defines becomes
-/// constant false. There must be no cycle of gates, no variable that two gates define, and fewer than 2^31 inputs, latches and
-/// gates together; each value that was read is so (`good_is_writable`). Room is taken for what the lists hold, whatever `max` is.
+/// The same value with its variables numbered from 1: inputs in order, then latches in order, then
+/// gates by level and within a level in their order. A gate's level is one more than the greater
+/// level of its operands; what no gate defines has level 0. The greatest variable is the last one,
+/// a gate's greater operand comes first, and a variable that nothing defines becomes constant
+/// false. There must be no cycle of gates, no variable that two gates define, and fewer than 2^31
+/// inputs, latches and gates together; each value that was read is so (`good_is_writable`). Room is
+/// taken for what the lists hold, whatever `max` is.
 pub fn renumber(alloc: Global, aig: &Aig) -> Result<Aig, AllocError>
     requires { IsWritable aig.now }
     ensures { IfOk result (λ w. w ≡ numbered_anew aig.now) }

@@ -1,15 +1,13 @@
 // The writer of the binary form.
 ghost use Rattle.std.specs.Prelude.{◌≡◌, ◌++◌, OnOk, IfOk};
 ghost use Rattle.std.specs.List.{flat_map};
-ghost use Rattle.gi_aiger_binary.specs.Texts.{binary_text, front_text, gate_text, latch_line, lines_text};
+ghost use Rattle.gi_aiger_binary.specs.Texts.{binary_text, gate_text, latch_line};
 ghost use Rattle.gi_aiger_binary.specs.Sound.{IsReadable, IsWritable};
 ghost use Rattle.gi_aiger_binary.specs.Written.{AreReadBack, written};
 
 use crate::differences::put_difference;
 use crate::renumbering::renumber;
-use gi_aiger::line_writers::{
-    put_comment, put_edges, put_head, put_lists, put_number, put_reset, put_sizes, put_symbols,
-};
+use gi_aiger::line_writers::{put_head, put_names, put_number, put_properties, put_reset};
 use gi_aiger::{Aig, AndGate, Latch};
 use gi_text::Bytes;
 use std::alloc::{AllocError, Global};
@@ -49,47 +47,26 @@ fn put_gates(out: &mut Bytes, gates: &[AndGate]) -> Result<(), AllocError>
     Ok(())
 }
 
-// The header, and the lines up to the justice sizes.
-fn front_of(alloc: Global, aig: &Aig) -> Result<Bytes, AllocError>
-    ensures { IfOk result (λ bytes. bytes ≡ front_text aig.now) }
-{
-    let mut out = Bytes::new(alloc);
-    put_head(&mut out, b"aig", aig)?;
-    put_latches(&mut out, aig.latches.as_slice())?;
-    put_edges(&mut out, aig.outs.as_slice())?;
-    put_edges(&mut out, aig.bads.as_slice())?;
-    put_edges(&mut out, aig.cons.as_slice())?;
-    Ok(out)
-}
-
-// All lines before the gates.
-fn lines_of(alloc: Global, aig: &Aig) -> Result<Bytes, AllocError>
-    ensures { IfOk result (λ bytes. bytes ≡ lines_text aig.now) }
-{
-    let mut out = front_of(alloc, aig)?;
-    put_sizes(&mut out, aig.justice.as_slice())?;
-    put_lists(&mut out, aig.justice.as_slice())?;
-    put_edges(&mut out, aig.fair.as_slice())?;
-    Ok(out)
-}
-
 // The text of a value that is numbered already.
 #[tactic(auto, unfolding(crate::specs::Texts::binary_text))]
 fn text_of(alloc: Global, aig: &Aig) -> Result<Bytes, AllocError>
     ensures { IfOk result (λ bytes. bytes ≡ binary_text aig.now) }
 {
-    let mut out = lines_of(alloc, aig)?;
+    let mut out = Bytes::new(alloc);
+    put_head(&mut out, b"aig", aig)?;
+    put_latches(&mut out, aig.latches.as_slice())?;
+    put_properties(&mut out, aig)?;
     put_gates(&mut out, aig.gates.as_slice())?;
-    put_symbols(&mut out, aig.symbols.as_slice())?;
-    put_comment(&mut out, &aig.comment)?;
+    put_names(&mut out, aig)?;
     Ok(out)
 }
 
-/// The text of a value in the binary form of AIGER 1.9, its variables numbered anew as `renumber` does: the header with the
-/// further counts up to the last that isn't 0, the sections in order, without lines of inputs and without the latches' own
-/// literals, the gates as differences in their shortest spelling, the symbols, and the comment behind a line `c`. Read again,
-/// the text of a sound value gives the value as `renumber` gives it; each value that was read is sound. What is asked of the
-/// value is what `renumber` asks.
+/// The text of a value in the binary form of AIGER 1.9, its variables numbered anew as `renumber`
+/// does: the header with the further counts up to the last that isn't 0, the sections in order,
+/// without lines of inputs and without the latches' own literals, the gates as differences in their
+/// shortest spelling, the symbols, and the comment behind a line `c`. Read again, the text of a
+/// sound value gives the value as `renumber` gives it; each value that was read is sound. What is
+/// asked of the value is what `renumber` asks.
 pub fn write_binary(alloc: Global, aig: &Aig) -> Result<Bytes, AllocError>
     requires { IsWritable aig.now }
     ensures text { IfOk result (λ bytes. bytes ≡ written aig.now) }
