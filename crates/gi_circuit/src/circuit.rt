@@ -252,10 +252,11 @@ impl Circuit {
         requires { IsImportable aig.now }
         ensures { IfOk result (λ c. c ≡ circuit_of aig.now) }
     {
+        let literals = aig.inputs.listed(alloc)?;
         let gates = aig.gates.as_slice();
         let places = acyclic_places(alloc, gates)?;
         let mut importer = Importer::new(alloc, aig.max);
-        importer.inputs(aig.inputs.as_slice())?;
+        importer.inputs(literals.as_slice())?;
         importer.latches(aig.latches.as_slice())?;
         importer.gates(gates, &places)?;
         importer.finish(alloc, aig)

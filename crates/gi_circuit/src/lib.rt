@@ -8,8 +8,6 @@ mod import;
 mod laws;
 mod net;
 mod node;
-#[cfg(test)]
-mod tests;
 mod values;
 
 pub use circuit::{Circuit, Counts};

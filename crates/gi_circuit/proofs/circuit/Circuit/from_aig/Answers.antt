@@ -15,7 +15,7 @@ use Rattle.gi_circuit.proofs.circuit.Circuit.from_aig.Goals as goal
 pub latches-requires : goal.latches-requires
 latches-requires c =
     let one : c.inputs.new.self ≡ fold with_input_of (imported_none c.args.aig.now.max) c.args.aig.now.inputs =
-    c.in_ok-inputs.ensures ∙ ap (λ z. fold with_input_of z c.as_slice.result.now) c.new-importer.ensures ∙ ap (fold with_input_of (imported_none c.args.aig.now.max)) c.as_slice.ensures in
+    c.in_ok-inputs.ensures ∙ ap (λ z. fold with_input_of z c.as_slice.result.now) c.new-importer.ensures ∙ ap (fold with_input_of (imported_none c.args.aig.now.max)) (c.as_slice.ensures ∙ c.in_ok-literals.ensures) in
     let n = ap (λ (m : Imported). length m.system.parts.nodes) one in
     let k = input_nodes c.args.aig.now.inputs (imported_none c.args.aig.now.max) in
     let l = ap (λ (z : List Latch). length z) c.as_slice-2.ensures in
@@ -24,7 +24,7 @@ latches-requires c =
 pub gates-requires-clause-room : goal.gates-requires-clause-room
 gates-requires-clause-room c =
     let one : c.inputs.new.self ≡ fold with_input_of (imported_none c.args.aig.now.max) c.args.aig.now.inputs =
-    c.in_ok-inputs.ensures ∙ ap (λ z. fold with_input_of z c.as_slice.result.now) c.new-importer.ensures ∙ ap (fold with_input_of (imported_none c.args.aig.now.max)) c.as_slice.ensures in
+    c.in_ok-inputs.ensures ∙ ap (λ z. fold with_input_of z c.as_slice.result.now) c.new-importer.ensures ∙ ap (fold with_input_of (imported_none c.args.aig.now.max)) (c.as_slice.ensures ∙ c.in_ok-literals.ensures) in
     let two : c.latches.new.self ≡ fold with_latch_of (fold with_input_of (imported_none c.args.aig.now.max) c.args.aig.now.inputs) c.args.aig.now.latches =
     c.in_ok-latches.ensures ∙ ap (λ z. fold with_latch_of z c.as_slice-2.result.now) one ∙ ap (fold with_latch_of (fold with_input_of (imported_none c.args.aig.now.max) c.args.aig.now.inputs)) c.as_slice-2.ensures in
     let n = ap (λ (m : Imported). length m.system.parts.nodes) two in
@@ -43,7 +43,7 @@ gates-requires-clause-inside c =
 pub finish-requires-clause-latches : goal.finish-requires-clause-latches
 finish-requires-clause-latches c =
     let one : c.inputs.new.self ≡ fold with_input_of (imported_none c.args.aig.now.max) c.args.aig.now.inputs =
-    c.in_ok-inputs.ensures ∙ ap (λ z. fold with_input_of z c.as_slice.result.now) c.new-importer.ensures ∙ ap (fold with_input_of (imported_none c.args.aig.now.max)) c.as_slice.ensures in
+    c.in_ok-inputs.ensures ∙ ap (λ z. fold with_input_of z c.as_slice.result.now) c.new-importer.ensures ∙ ap (fold with_input_of (imported_none c.args.aig.now.max)) (c.as_slice.ensures ∙ c.in_ok-literals.ensures) in
     let two : c.latches.new.self ≡ fold with_latch_of (fold with_input_of (imported_none c.args.aig.now.max) c.args.aig.now.inputs) c.args.aig.now.latches =
     c.in_ok-latches.ensures ∙ ap (λ z. fold with_latch_of z c.as_slice-2.result.now) one ∙ ap (fold with_latch_of (fold with_input_of (imported_none c.args.aig.now.max) c.args.aig.now.inputs)) c.as_slice-2.ensures in
     let a = ap (λ (m : Imported). m.system.parts.latches) c.in_ok-gates.ensures in
@@ -57,7 +57,7 @@ pub returns : goal.returns
 unfolding system_of
 returns c =
     let one : c.inputs.new.self ≡ fold with_input_of (imported_none c.args.aig.now.max) c.args.aig.now.inputs =
-    c.in_ok-inputs.ensures ∙ ap (λ z. fold with_input_of z c.as_slice.result.now) c.new-importer.ensures ∙ ap (fold with_input_of (imported_none c.args.aig.now.max)) c.as_slice.ensures in
+    c.in_ok-inputs.ensures ∙ ap (λ z. fold with_input_of z c.as_slice.result.now) c.new-importer.ensures ∙ ap (fold with_input_of (imported_none c.args.aig.now.max)) (c.as_slice.ensures ∙ c.in_ok-literals.ensures) in
     let two : c.latches.new.self ≡ fold with_latch_of (fold with_input_of (imported_none c.args.aig.now.max) c.args.aig.now.inputs) c.args.aig.now.latches =
     c.in_ok-latches.ensures ∙ ap (λ z. fold with_latch_of z c.as_slice-2.result.now) one ∙ ap (fold with_latch_of (fold with_input_of (imported_none c.args.aig.now.max) c.args.aig.now.inputs)) c.as_slice-2.ensures in
     let same : c.deref.result.now ≡ places_by_level c.args.aig.now.gates = c.deref.ensures.value ∙ c.in_ok-places.ensures.order ∙ ap places_by_level c.as_slice-gates.ensures in
