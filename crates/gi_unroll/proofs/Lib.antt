@@ -12,3 +12,5 @@ pub mod Extensions
 pub mod Continuing
 pub mod Chosen
 pub mod Tracing
+pub mod Following
+pub mod Holding

@@ -25,7 +25,16 @@ most_of s = 1 + s.parts.inputs + s.parts.latches + count_by is_gate s.parts.node
 
 -- what a frame gives
 abbrev pub IsFrame : Frame → ℕ → Framed → Type 0
-IsFrame r time f = r ≡ record { time = time; fresh = f.fresh; added = f.added; inputs = f.inputs; latches = f.latches; outs = f.outs; bads = f.bads; cons = f.cons }
+IsFrame r time f = r ≡ record {
+  time = time;
+  fresh = f.fresh;
+  added = f.added;
+  inputs = f.inputs;
+  latches = f.latches;
+  outs = f.outs;
+  bads = f.bads;
+  cons = f.cons;
+}
 
 -- the greatest variable so far, where a frame took some from n on
 abbrev pub top_after : ℕ → ℕ → ℕ → ℕ
@@ -33,9 +42,13 @@ top_after top n fresh = if fresh == 0 then top else n + fresh - 1
 
 -- all frames so far, with one more whose variables begin at n
 abbrev pub with_frame : Unrolled → ℕ → Unrolled
-with_frame u n = record u { frames = (frame_of u.system u.frames n).frames; top = top_after u.top n (frame_of u.system u.frames n).fresh }
+with_frame u n = record u {
+  frames = (frame_of u.system u.frames n).frames;
+  top = top_after u.top n (frame_of u.system u.frames n).fresh;
+}
 
--- what frames have: a literal for each node, one node for each choice, and the edges of the next latch states
+-- what frames have: a literal for each node, one node for each choice, and the edges of the next
+-- latch states
 pub record IsUnrolling (u : Unrolled) : Type 0 where
   pub start : u.frames.made ≡ 0 → (u.frames.net ≡ []) × (u.frames.lits ≡ [])
   pub lits : length u.frames.lits ≤ u.top
@@ -46,12 +59,17 @@ pub record IsUnrolling (u : Unrolled) : Type 0 where
 
 -- whatever was chosen, wherever the clauses hold each literal of a list has the value told
 abbrev pub TellList : List (List ℕ) → Frames → List ℕ → (List Bool → List Bool) → Type 0
-TellList clauses f lits told = (chosen values : List Bool) → Satisfies values clauses → Chooses f.net f.lits chosen values → (j : ℕ) → j < length lits → true_in values (slice_index lits j) ≡ slice_index_or (told chosen) j false
+TellList clauses f lits told = (chosen values : List Bool) → Satisfies values clauses
+    → Chooses f.net f.lits chosen values → (j : ℕ) → j < length lits
+    → true_in values (slice_index lits j) ≡ slice_index_or (told chosen) j false
 
--- wherever the clauses of some frames hold, each literal of the frame has the value that direct evaluation gives at its time
-pub record TellsFrameAt (s : System) (clauses : List (List ℕ)) (f : Frames) (t : ℕ) (g : Framed) : Type 0 where
+-- wherever the clauses of some frames hold, each literal of the frame has the value that direct
+-- evaluation gives at its time
+pub record TellsFrameAt (s : System) (clauses : List (List ℕ)) (f : Frames) (t : ℕ)
+    (g : Framed) : Type 0 where
   pub inputs : TellList clauses f g.inputs (λ chosen. inputs_at s chosen t)
-  pub latches : TellList clauses f g.latches (λ chosen. latch_values s (inputs_at s chosen) (free_at s chosen) t)
+  pub latches : TellList clauses f g.latches
+      (λ chosen. latch_values s (inputs_at s chosen) (free_at s chosen) t)
   pub outs : TellValues s clauses f t g.outs s.outs
   pub bads : TellValues s clauses f t g.bads s.bads
   pub cons : TellValues s clauses f t g.cons s.cons
@@ -60,19 +78,27 @@ pub record TellsFrameAt (s : System) (clauses : List (List ℕ)) (f : Frames) (t
 abbrev pub TellsFrame : System → List (List ℕ) → ℕ → Framed → Type 0
 TellsFrame s clauses t g = TellsFrameAt s clauses g.frames t g
 
--- where all clauses before encode the frames before, all with those of the new frame encode all frames, and its literals have their values
+-- where all clauses before encode the frames before, all with those of the new frame encode all
+-- frames, and its literals have their values
 abbrev pub KeepsEncoding : Unrolled → ℕ → Type 0
-KeepsEncoding u n = (earlier : List (List ℕ)) → IsUnrolled u.system earlier u.top u.frames → IsUnrolled u.system (earlier ++ (frame_of u.system u.frames n).added) (with_frame u n).top (with_frame u n).frames × TellsFrame u.system (earlier ++ (frame_of u.system u.frames n).added) u.frames.made (frame_of u.system u.frames n)
+KeepsEncoding u n = (earlier : List (List ℕ)) → IsUnrolled u.system earlier u.top u.frames
+    → IsUnrolled u.system (earlier ++ (frame_of u.system u.frames n).added) (with_frame u n).top
+    (with_frame u n).frames × TellsFrame u.system (earlier ++ (frame_of u.system u.frames n).added)
+    u.frames.made (frame_of u.system u.frames n)
 
--- each variable that the new frame takes is that of a node's literal, and the nodes and literals there were stay
+-- each variable that the new frame takes is that of a node's literal, and the nodes and literals
+-- there were stay
 pub record KeepsLiterals (u : Unrolled) (n : ℕ) : Type 0 where
-  pub taken : (v : ℕ) → n ≤ v → v < n + (frame_of u.system u.frames n).fresh → HasLiteral (frame_of u.system u.frames n).frames.lits v
+  pub taken : (v : ℕ) → n ≤ v → v < n + (frame_of u.system u.frames n).fresh
+      → HasLiteral (frame_of u.system u.frames n).frames.lits v
   pub stay : (more : List ℕ) × ((frame_of u.system u.frames n).frames.lits ≡ u.frames.lits ++ more)
-  pub nodes : (more : List Node) × ((frame_of u.system u.frames n).frames.net ≡ u.frames.net ++ more)
+  pub nodes : (more : List Node)
+      × ((frame_of u.system u.frames n).frames.net ≡ u.frames.net ++ more)
 
 -- a variable that the new frame takes, or that a literal of the frames before has
 abbrev pub IsNamed : Unrolled → ℕ → ℕ → Type 0
-IsNamed u n v = ((n ≤ v) × (v < n + (frame_of u.system u.frames n).fresh)) ⊎ HasLiteral u.frames.lits v
+IsNamed u n v = ((n ≤ v) × (v < n + (frame_of u.system u.frames n).fresh))
+    ⊎ HasLiteral u.frames.lits v
 
 -- each literal of the new frame is of such a variable
 pub record NamesVariables (u : Unrolled) (n : ℕ) : Type 0 where

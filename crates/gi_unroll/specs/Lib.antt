@@ -2,3 +2,5 @@ pub mod Steps
 pub mod Frames
 pub mod Choices
 pub mod Laws
+pub mod OneByOne
+pub mod Traces

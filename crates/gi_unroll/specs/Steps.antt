@@ -15,7 +15,8 @@ parts_of d = record { inputs = d.choices; latches = 0; nodes = d.net }
 
 -- the frames that a draft, the edges of the next latch states and the number of frames make up
 abbrev pub frames_of : Draft → List ℕ → ℕ → Frames
-frames_of d latches made = record { net = d.net; choices = d.choices; lits = d.lits; latches = latches; made = made }
+frames_of d latches made =
+    record { net = d.net; choices = d.choices; lits = d.lits; latches = latches; made = made }
 
 abbrev pub along : Draft → List ℕ → Along
 along d edges = record { draft = d; edges = edges }
@@ -25,7 +26,8 @@ abbrev pub defined : Draft → ℕ → ℕ → Draft
 defined d a b = record d {
   lits = d.lits ++ 2 * d.next ∷ [];
   next = d.next + 1;
-  clauses = d.clauses ++ gate_clauses (2 * d.next) (lit_of d.lits (pair_of a b).low) (lit_of d.lits (pair_of a b).high);
+  clauses = d.clauses ++ gate_clauses (2 * d.next) (lit_of d.lits (pair_of a b).low)
+      (lit_of d.lits (pair_of a b).high);
 }
 
 -- each node has a literal, and there are fewer nodes than variables below the next one

@@ -1,4 +1,5 @@
-//! What frames make: the shared circuit, its literals, and the clauses of the frame that is being made.
+//! What frames make: the shared circuit, its literals, and the clauses of the frame that is being
+//! made.
 ghost use Rattle.std.specs.Prelude.{◌≡◌, ◌==◌, ◌+◌, ◌-◌, ◌*◌, ◌/◌, ◌<◌, ◌≤◌, ◌∷◌, ◌++◌, [], length, take, map, fold, count_by, All, IfOk, OnOk, OnErr, if◌then◌else◌};
 ghost use Rattle.gi_circuit.specs.Nodes.{IsPlaced, IsOrdered, AreNodesSound, is_gate};
 ghost use Rattle.gi_circuit.specs.Frames.{Draft, lit_of, edge_of, with_choice, with_gate, with_node, input_along, reset_along, draft_of};
@@ -13,8 +14,9 @@ use std::alloc::{AllocError, Global};
 use std::marker::Model;
 use std::mem;
 
-/// The circuit that all frames share, with the literal of each node, and what the frame that is being made
-/// has so far: the next variable, its clauses, and the edge of each node of the circuit in the shared one.
+/// The circuit that all frames share, with the literal of each node, and what the frame that is
+/// being made has so far: the next variable, its clauses, and the edge of each node of the circuit
+/// in the shared one.
 #[derive(Drop)]
 pub(crate) struct Builder {
     alloc: Global,
@@ -31,7 +33,14 @@ impl Model for Builder {
 
     ghost Value = { Draft };
 
-    ghost view = { λ b. record { net = b.net.nodes; choices = b.net.inputs; lits = b.lits.items; next = b.next; clauses = b.clauses; edges = b.edges.items } };
+    ghost view = { λ b. record {
+      net = b.net.nodes;
+      choices = b.net.inputs;
+      lits = b.lits.items;
+      next = b.next;
+      clauses = b.clauses;
+      edges = b.edges.items;
+    } };
 
     ghost invariant = { λ b. b.net.latches ≡ 0 };
 }
@@ -60,7 +69,14 @@ impl Builder {
     /// How much there is.
     pub(crate) fn extent(&self) -> Extent
         ensures sound { AreNodesSound (parts_of self.now) }
-        ensures extent { result ≡ record { net = record { inputs = self.now.choices; latches = 0; nodes = length self.now.net }; lits = length self.now.lits } }
+        ensures extent { result ≡ record {
+          net = record {
+            inputs = self.now.choices;
+            latches = 0;
+            nodes = length self.now.net;
+          };
+          lits = length self.now.lits;
+        } }
     {
         Extent {
             net: self.net.size(),
@@ -71,7 +87,12 @@ impl Builder {
     /// Takes back what was made since there was this much.
     pub(crate) fn cut(&mut self, extent: Extent)
         requires latches { extent.net.latches ≡ 0 }
-        requires sound { AreNodesSound (record { inputs = extent.net.inputs; latches = extent.net.latches; nodes = take extent.net.nodes self.old.net }) }
+        requires sound { AreNodesSound
+            (record {
+              inputs = extent.net.inputs;
+              latches = extent.net.latches;
+              nodes = take extent.net.nodes self.old.net;
+            }) }
         ensures net { self.new.net ≡ take extent.net.nodes self.old.net }
         ensures choices { self.new.choices ≡ extent.net.inputs }
         ensures lits { self.new.lits ≡ take extent.lits self.old.lits }
@@ -118,8 +139,14 @@ impl Builder {
     fn begin_first(&mut self) -> Result<(), AllocError>
         requires low { 1 ≤ self.old.next }
         requires high { self.old.next ≤ max_var }
-        ensures ok { OnOk result (self.new ≡ record self.old { lits = self.old.lits ++ (2 * self.old.next + 1) ∷ []; next = self.old.next + 1; clauses = self.old.clauses ++ (2 * self.old.next ∷ []) ∷ [] }) }
-        ensures err { OnErr result ((self.new.net ≡ self.old.net) × (self.new.lits ≡ self.old.lits)) }
+        ensures ok { OnOk result (self.new ≡ record self.old {
+          lits = self.old.lits
+              ++ (2 * self.old.next + 1) ∷ [];
+          next = self.old.next + 1;
+          clauses = self.old.clauses ++ (2 * self.old.next ∷ []) ∷ [];
+        }) }
+        ensures err { OnErr result
+            ((self.new.net ≡ self.old.net) × (self.new.lits ≡ self.old.lits)) }
     {
         let always = variable(self.next);
         push_unit(self.alloc, &mut self.clauses, always.positive())?;
@@ -177,15 +204,17 @@ impl Builder {
         self.put(edge)
     }
 
-    /// The variable of the gate of two edges, with its clauses, if it was just made: if there are more nodes than
-    /// before.
+    /// The variable of the gate of two edges, with its clauses, if it was just made: if there are
+    /// more nodes than before.
     fn define(&mut self, before: u32, a: Edge, b: Edge) -> Result<(), AllocError>
         requires low { 1 ≤ self.old.next }
         requires room { self.old.next ≤ max_var }
         requires first { a / 2 < length self.old.lits }
         requires second { b / 2 < length self.old.lits }
-        ensures ok { OnOk result (self.new ≡ (if length self.old.net == before then self.old else defined self.old a b)) }
-        ensures err { OnErr result ((self.new.net ≡ self.old.net) × (self.new.lits ≡ self.old.lits)) }
+        ensures ok { OnOk result (self.new ≡ (if length self.old.net == before then self.old
+            else defined self.old a b)) }
+        ensures err { OnErr result
+            ((self.new.net ≡ self.old.net) × (self.new.lits ≡ self.old.lits)) }
     {
         if self.net.size().nodes == before {
             return Ok(());
@@ -205,7 +234,8 @@ impl Builder {
         requires room { self.old.next + (if is_gate node then 1 else 0) ≤ max_var + 1 }
         requires some { 1 ≤ length self.old.edges }
         requires edges { All (λ e. e / 2 ≤ length self.old.net) self.old.edges }
-        requires placed { IsPlaced (length inputs.now) (length latches.now) (length self.old.edges - 1) node }
+        requires placed { IsPlaced (length inputs.now) (length latches.now)
+            (length self.old.edges - 1) node }
         ensures ok { OnOk result (self.new ≡ with_node inputs.now latches.now self.old node) }
         ensures err { OnErr result (IsLonger self.old self.new) }
     {
@@ -235,10 +265,16 @@ impl Builder {
         requires ready { IsReady self.old }
         requires room { self.old.next + count_by is_gate nodes.now ≤ max_var + 1 }
         requires edges { HasEdges 0 self.old }
-        requires ordered { IsOrdered (record { inputs = length inputs.now; latches = length latches.now; nodes = nodes.now }) }
+        requires ordered { IsOrdered
+            (record {
+              inputs = length inputs.now;
+              latches = length latches.now;
+              nodes = nodes.now;
+            }) }
         requires inputs { All (λ e. e / 2 ≤ length self.old.net) inputs.now }
         requires latches { All (λ e. e / 2 ≤ length self.old.net) latches.now }
-        ensures ok { OnOk result (self.new ≡ fold (with_node inputs.now latches.now) self.old nodes.now) }
+        ensures ok { OnOk result (self.new ≡ fold (with_node inputs.now latches.now) self.old
+            nodes.now) }
         ensures err { OnErr result (IsLonger self.old self.new) }
     {
         for node in nodes {
@@ -251,7 +287,8 @@ impl Builder {
     pub(crate) fn inputs(&mut self, count: u32) -> Result<Vec<Edge>, AllocError>
         requires ready { IsReady self.old }
         requires room { self.old.next + count ≤ max_var + 1 }
-        ensures ok { IfOk result (λ es. along self.new es.items ≡ input_along count (along self.old [])) }
+        ensures ok { IfOk result (λ es. along self.new es.items
+            ≡ input_along count (along self.old [])) }
         ensures err { OnErr result (IsLonger self.old self.new) }
     {
         let mut edges = Vec::new(self.alloc);
@@ -266,7 +303,8 @@ impl Builder {
     fn reset(&mut self, reset: Reset, edges: &mut Vec<Edge>) -> Result<(), AllocError>
         requires ready { IsReady self.old }
         requires room { self.old.next ≤ max_var }
-        ensures ok { OnOk result (along self.new edges.new.items ≡ reset_along (along self.old edges.old.items) reset) }
+        ensures ok { OnOk result (along self.new edges.new.items
+            ≡ reset_along (along self.old edges.old.items) reset) }
         ensures err { OnErr result (IsLonger self.old self.new) }
     {
         let edge = match reset {
@@ -282,7 +320,8 @@ impl Builder {
     pub(crate) fn resets(&mut self, resets: &[Reset]) -> Result<Vec<Edge>, AllocError>
         requires ready { IsReady self.old }
         requires room { self.old.next + length resets.now ≤ max_var + 1 }
-        ensures ok { IfOk result (λ es. along self.new es.items ≡ fold reset_along (along self.old []) resets.now) }
+        ensures ok { IfOk result (λ es. along self.new es.items
+            ≡ fold reset_along (along self.old []) resets.now) }
         ensures err { OnErr result (IsLonger self.old self.new) }
     {
         let mut edges = Vec::new(self.alloc);

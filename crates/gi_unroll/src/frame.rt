@@ -1,7 +1,7 @@
 use gi_lit::{Clauses, Lits};
 
-/// What a frame says: its time from 0, how many variables it took, its clauses, and its literals in the
-/// order of the circuit's inputs, latches, outputs, bad states and constraints.
+/// What a frame says: its time from 0, how many variables it took, its clauses, and its literals in
+/// the order of the circuit's inputs, latches, outputs, bad states and constraints.
 #[derive(Debug, Drop)]
 pub struct Frame {
     pub time: u32,

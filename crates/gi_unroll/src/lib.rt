@@ -6,12 +6,11 @@ mod clauses;
 mod extend;
 mod frame;
 mod laws;
-#[cfg(test)]
-mod tests;
 mod unroll;
 
 pub use frame::Frame;
 pub use laws::{
-    earlier_frames_stay, extensions_are_one, frames_keep, traces_are_packed, values_choose,
+    earlier_frames_stay, extensions_are_one, frames_are_traces, frames_keep, frames_one_by_one,
+    no_frame_says_nothing, traces_are_packed, values_choose,
 };
 pub use unroll::Unroll;

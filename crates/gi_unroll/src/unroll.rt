@@ -28,9 +28,17 @@ impl Model for Unroll {
 
     ghost Value = { Unrolled };
 
-    ghost view = { λ u. record { system = u.circuit; frames = frames_of u.builder u.latches.items u.made; top = u.top } };
+    ghost view = { λ u. record {
+      system = u.circuit;
+      frames = frames_of u.builder u.latches.items u.made;
+      top = u.top;
+    } };
 
-    ghost invariant = { λ u. IsUnrolling (record { system = u.circuit; frames = frames_of u.builder u.latches.items u.made; top = u.top }) };
+    ghost invariant = { λ u. IsUnrolling (record {
+      system = u.circuit;
+      frames = frames_of u.builder u.latches.items u.made;
+      top = u.top;
+    }) };
 }
 
 impl Unroll {
@@ -78,15 +86,18 @@ impl Unroll {
         self.top
     }
 
-    /// The next frame. Its variables begin at `next_var`, which must be above `top` and leave room for
+    /// The next frame. Its variables begin at `next_var`, which must be above `top` and leave room
+    /// for
     /// `bound` variables up to `MAX_VAR`. Its literals are of these variables and of those that earlier frames
-    /// took. It has at most one clause more than three for each gate of the circuit. After an error, which is
-    /// want of memory, all is as before.
+    /// took. It has at most one clause more than three for each gate of the circuit. After an
+    /// error, which is want of memory, all is as before.
     pub fn frame(&mut self, next_var: u32) -> Result<Frame, AllocError>
         requires above { self.old.top < next_var }
         requires room { next_var + most_of self.old.system ≤ max_var + 1 }
         requires more { self.old.frames.made < 4294967295 }
-        ensures frame { IfOk result (λ r. IsFrame r self.old.frames.made (frame_of self.old.system self.old.frames next_var)) }
+        ensures frame { IfOk result
+            (λ r. IsFrame r self.old.frames.made
+            (frame_of self.old.system self.old.frames next_var)) }
         ensures unrolled { OnOk result (self.new ≡ with_frame self.old next_var) }
         ensures encodes { OnOk result (KeepsEncoding self.old next_var) }
         ensures literals { OnOk result (KeepsLiterals self.old next_var) }

@@ -18,124 +18,65 @@ rebuild-requires-clause-ready c = ready_two c.args.circuit.now c.counts-counts.e
 pub rebuild-requires-clause-room : goal.rebuild-requires-clause-room
 rebuild-requires-clause-room c =
     let r = room_two c.args.circuit.now c.counts-counts.ensures.circuit c.args.builder.now c.args.latches.now c.args.made c.requires.kept.0 c.args.n c.requires.kept.2 c.requires.kept.1 c.begin.new.self c.in_ok-begin.ensures.ok c.begin_edges.new.builder c.in_ok-begun.begun.inputs.items c.in_ok-begun.begun.latches.items c.in_ok-begun.ensures.inputs c.in_ok-begun.ensures.latches in
-    let g = ap (count_by is_gate) c.nodes.ensures in
-    omega (arith, r, g, c.requires.room)
+    omega (arith, r, c.requires.room)
 
 pub rebuild-requires-clause-edges : goal.rebuild-requires-clause-edges
 rebuild-requires-clause-edges c = edges_two c.args.circuit.now c.counts-counts.ensures.circuit c.args.builder.now c.args.latches.now c.args.made c.requires.kept.0 c.args.n c.requires.kept.2 c.requires.kept.1 c.begin.new.self c.in_ok-begin.ensures.ok c.begin_edges.new.builder c.in_ok-begun.begun.inputs.items c.in_ok-begun.begun.latches.items c.in_ok-begun.ensures.inputs c.in_ok-begun.ensures.latches
 
 pub rebuild-requires-clause-ordered : goal.rebuild-requires-clause-ordered
-rebuild-requires-clause-ordered c =
-    subst (λ (z : List ℕ). IsOrdered (record { inputs = length z; latches = length c.deref-2.result.now; nodes = c.nodes.result.now })) (sym c.deref.ensures.value)
-    (subst (λ (z : List ℕ). IsOrdered (record { inputs = length c.in_ok-begun.begun.inputs.items; latches = length z; nodes = c.nodes.result.now })) (sym c.deref-2.ensures.value)
-    (subst (λ (z : List Node). IsOrdered (record { inputs = length c.in_ok-begun.begun.inputs.items; latches = length c.in_ok-begun.begun.latches.items; nodes = z })) (sym c.nodes.ensures) (ordered_two c.args.circuit.now c.counts-counts.ensures.circuit c.args.builder.now c.args.latches.now c.args.made c.requires.kept.0 c.args.n c.requires.kept.2 c.requires.kept.1 c.begin.new.self c.in_ok-begin.ensures.ok c.begin_edges.new.builder c.in_ok-begun.begun.inputs.items c.in_ok-begun.begun.latches.items c.in_ok-begun.ensures.inputs c.in_ok-begun.ensures.latches)))
+rebuild-requires-clause-ordered c = ordered_two c.args.circuit.now c.counts-counts.ensures.circuit c.args.builder.now c.args.latches.now c.args.made c.requires.kept.0 c.args.n c.requires.kept.2 c.requires.kept.1 c.begin.new.self c.in_ok-begin.ensures.ok c.begin_edges.new.builder c.in_ok-begun.begun.inputs.items c.in_ok-begun.begun.latches.items c.in_ok-begun.ensures.inputs c.in_ok-begun.ensures.latches
 
 pub rebuild-requires-clause-inputs : goal.rebuild-requires-clause-inputs
-rebuild-requires-clause-inputs c = subst (λ (z : List ℕ). All (λ e. e / 2 ≤ length c.begin_edges.new.builder.net) z) (sym c.deref.ensures.value) (inputs_two c.args.circuit.now c.counts-counts.ensures.circuit c.args.builder.now c.args.latches.now c.args.made c.requires.kept.0 c.args.n c.requires.kept.2 c.requires.kept.1 c.begin.new.self c.in_ok-begin.ensures.ok c.begin_edges.new.builder c.in_ok-begun.begun.inputs.items c.in_ok-begun.begun.latches.items c.in_ok-begun.ensures.inputs c.in_ok-begun.ensures.latches)
+rebuild-requires-clause-inputs c = inputs_two c.args.circuit.now c.counts-counts.ensures.circuit c.args.builder.now c.args.latches.now c.args.made c.requires.kept.0 c.args.n c.requires.kept.2 c.requires.kept.1 c.begin.new.self c.in_ok-begin.ensures.ok c.begin_edges.new.builder c.in_ok-begun.begun.inputs.items c.in_ok-begun.begun.latches.items c.in_ok-begun.ensures.inputs c.in_ok-begun.ensures.latches
 
 pub rebuild-requires-clause-latches : goal.rebuild-requires-clause-latches
-rebuild-requires-clause-latches c = subst (λ (z : List ℕ). All (λ e. e / 2 ≤ length c.begin_edges.new.builder.net) z) (sym c.deref-2.ensures.value) (latches_two c.args.circuit.now c.counts-counts.ensures.circuit c.args.builder.now c.args.latches.now c.args.made c.requires.kept.0 c.args.n c.requires.kept.2 c.requires.kept.1 c.begin.new.self c.in_ok-begin.ensures.ok c.begin_edges.new.builder c.in_ok-begun.begun.inputs.items c.in_ok-begun.begun.latches.items c.in_ok-begun.ensures.inputs c.in_ok-begun.ensures.latches)
+rebuild-requires-clause-latches c = latches_two c.args.circuit.now c.counts-counts.ensures.circuit c.args.builder.now c.args.latches.now c.args.made c.requires.kept.0 c.args.n c.requires.kept.2 c.requires.kept.1 c.begin.new.self c.in_ok-begin.ensures.ok c.begin_edges.new.builder c.in_ok-begun.begun.inputs.items c.in_ok-begun.begun.latches.items c.in_ok-begun.ensures.inputs c.in_ok-begun.ensures.latches
 
 pub returns-in_err-rebuild-clause-err : goal.returns-in_err-rebuild-clause-err
 returns-in_err-rebuild-clause-err c =
-    on_err_at (IsLonger c.args.builder.now c.rebuild.new.self) c.from_residual-in_err-rebuild.result (IsLonger-trans c.args.builder.now c.begin_edges.new.builder c.rebuild.new.self (longer_two c.args.circuit.now c.counts-counts.ensures.circuit c.args.builder.now c.args.latches.now c.args.made c.requires.kept.0 c.args.n c.requires.kept.2 c.requires.kept.1 c.begin.new.self c.in_ok-begin.ensures.ok c.begin_edges.new.builder c.in_ok-begun.begun.inputs.items c.in_ok-begun.begun.latches.items c.in_ok-begun.ensures.inputs c.in_ok-begun.ensures.latches) c.in_err-rebuild.ensures.err)
+    on_err_at (IsLonger c.args.builder.now c.rebuild.new.builder) c.from_residual-in_err-rebuild.result (IsLonger-trans c.args.builder.now c.begin_edges.new.builder c.rebuild.new.builder (longer_two c.args.circuit.now c.counts-counts.ensures.circuit c.args.builder.now c.args.latches.now c.args.made c.requires.kept.0 c.args.n c.requires.kept.2 c.requires.kept.1 c.begin.new.self c.in_ok-begin.ensures.ok c.begin_edges.new.builder c.in_ok-begun.begun.inputs.items c.in_ok-begun.begun.latches.items c.in_ok-begun.ensures.inputs c.in_ok-begun.ensures.latches) c.in_err-rebuild.ensures.err)
 
 pub edges_of-requires : goal.edges_of-requires
 edges_of-requires c =
-    let e3 : c.rebuild.new.self ≡ fold (with_node c.in_ok-begun.begun.inputs.items c.in_ok-begun.begun.latches.items) c.begin_edges.new.builder c.args.circuit.now.parts.nodes =
-    c.in_ok-rebuild.ensures.ok
-    ∙ ap (λ z. fold (with_node z c.deref-2.result.now) c.begin_edges.new.builder c.nodes.result.now) c.deref.ensures.value
-    ∙ ap (λ z. fold (with_node c.in_ok-begun.begun.inputs.items z) c.begin_edges.new.builder c.nodes.result.now) c.deref-2.ensures.value
-    ∙ ap (fold (with_node c.in_ok-begun.begun.inputs.items c.in_ok-begun.begun.latches.items) c.begin_edges.new.builder) c.nodes.ensures in
-    let h = (edges_three c.args.circuit.now c.counts-counts.ensures.circuit c.args.builder.now c.args.latches.now c.args.made c.requires.kept.0 c.args.n c.requires.kept.2 c.requires.kept.1 c.begin.new.self c.in_ok-begin.ensures.ok c.begin_edges.new.builder c.in_ok-begun.begun.inputs.items c.in_ok-begun.begun.latches.items c.in_ok-begun.ensures.inputs c.in_ok-begun.ensures.latches c.rebuild.new.self e3).count in
-    subst (λ (z : List ℕ). All (λ e. e / 2 < length c.rebuild.new.self.edges) z) (sym c.nexts.ensures) (λ k d lt. let le = c.counts-counts.ensures.circuit.wired.next_nodes k d lt in omega (arith, le, h))
+    let h = (edges_three c.args.circuit.now c.counts-counts.ensures.circuit c.args.builder.now c.args.latches.now c.args.made c.requires.kept.0 c.args.n c.requires.kept.2 c.requires.kept.1 c.begin.new.self c.in_ok-begin.ensures.ok c.begin_edges.new.builder c.in_ok-begun.begun.inputs.items c.in_ok-begun.begun.latches.items c.in_ok-begun.ensures.inputs c.in_ok-begun.ensures.latches c.rebuild.new.builder c.in_ok-rebuild.ensures.ok).count in
+    subst (λ (z : List ℕ). All (λ e. e / 2 < length c.rebuild.new.builder.edges) z) (sym c.nexts.ensures) (λ k d lt. let le = c.counts-counts.ensures.circuit.wired.next_nodes k d lt in omega (arith, le, h))
 
 pub returns-in_err-nexts-clause-err : goal.returns-in_err-nexts-clause-err
 returns-in_err-nexts-clause-err c =
-    let e3 : c.rebuild.new.self ≡ fold (with_node c.in_ok-begun.begun.inputs.items c.in_ok-begun.begun.latches.items) c.begin_edges.new.builder c.args.circuit.now.parts.nodes =
-    c.in_ok-rebuild.ensures.ok
-    ∙ ap (λ z. fold (with_node z c.deref-2.result.now) c.begin_edges.new.builder c.nodes.result.now) c.deref.ensures.value
-    ∙ ap (λ z. fold (with_node c.in_ok-begun.begun.inputs.items z) c.begin_edges.new.builder c.nodes.result.now) c.deref-2.ensures.value
-    ∙ ap (fold (with_node c.in_ok-begun.begun.inputs.items c.in_ok-begun.begun.latches.items) c.begin_edges.new.builder) c.nodes.ensures in
-    on_err_at (IsLonger c.args.builder.now c.rebuild.new.self) c.from_residual-in_err-nexts.result (longer_three c.args.circuit.now c.counts-counts.ensures.circuit c.args.builder.now c.args.latches.now c.args.made c.requires.kept.0 c.args.n c.requires.kept.2 c.requires.kept.1 c.begin.new.self c.in_ok-begin.ensures.ok c.begin_edges.new.builder c.in_ok-begun.begun.inputs.items c.in_ok-begun.begun.latches.items c.in_ok-begun.ensures.inputs c.in_ok-begun.ensures.latches c.rebuild.new.self e3)
+    on_err_at (IsLonger c.args.builder.now c.rebuild.new.builder) c.from_residual-in_err-nexts.result (longer_three c.args.circuit.now c.counts-counts.ensures.circuit c.args.builder.now c.args.latches.now c.args.made c.requires.kept.0 c.args.n c.requires.kept.2 c.requires.kept.1 c.begin.new.self c.in_ok-begin.ensures.ok c.begin_edges.new.builder c.in_ok-begun.begun.inputs.items c.in_ok-begun.begun.latches.items c.in_ok-begun.ensures.inputs c.in_ok-begun.ensures.latches c.rebuild.new.builder c.in_ok-rebuild.ensures.ok)
 
 pub give-requires-clause-edges : goal.give-requires-clause-edges
 give-requires-clause-edges c =
-    let e3 : c.rebuild.new.self ≡ fold (with_node c.in_ok-begun.begun.inputs.items c.in_ok-begun.begun.latches.items) c.begin_edges.new.builder c.args.circuit.now.parts.nodes =
-    c.in_ok-rebuild.ensures.ok
-    ∙ ap (λ z. fold (with_node z c.deref-2.result.now) c.begin_edges.new.builder c.nodes.result.now) c.deref.ensures.value
-    ∙ ap (λ z. fold (with_node c.in_ok-begun.begun.inputs.items z) c.begin_edges.new.builder c.nodes.result.now) c.deref-2.ensures.value
-    ∙ ap (fold (with_node c.in_ok-begun.begun.inputs.items c.in_ok-begun.begun.latches.items) c.begin_edges.new.builder) c.nodes.ensures in
-    edges_three c.args.circuit.now c.counts-counts.ensures.circuit c.args.builder.now c.args.latches.now c.args.made c.requires.kept.0 c.args.n c.requires.kept.2 c.requires.kept.1 c.begin.new.self c.in_ok-begin.ensures.ok c.begin_edges.new.builder c.in_ok-begun.begun.inputs.items c.in_ok-begun.begun.latches.items c.in_ok-begun.ensures.inputs c.in_ok-begun.ensures.latches c.rebuild.new.self e3
+    edges_three c.args.circuit.now c.counts-counts.ensures.circuit c.args.builder.now c.args.latches.now c.args.made c.requires.kept.0 c.args.n c.requires.kept.2 c.requires.kept.1 c.begin.new.self c.in_ok-begin.ensures.ok c.begin_edges.new.builder c.in_ok-begun.begun.inputs.items c.in_ok-begun.begun.latches.items c.in_ok-begun.ensures.inputs c.in_ok-begun.ensures.latches c.rebuild.new.builder c.in_ok-rebuild.ensures.ok
 
 pub give-requires-clause-count : goal.give-requires-clause-count
 give-requires-clause-count c =
-    let e3 : c.rebuild.new.self ≡ fold (with_node c.in_ok-begun.begun.inputs.items c.in_ok-begun.begun.latches.items) c.begin_edges.new.builder c.args.circuit.now.parts.nodes =
-    c.in_ok-rebuild.ensures.ok
-    ∙ ap (λ z. fold (with_node z c.deref-2.result.now) c.begin_edges.new.builder c.nodes.result.now) c.deref.ensures.value
-    ∙ ap (λ z. fold (with_node c.in_ok-begun.begun.inputs.items z) c.begin_edges.new.builder c.nodes.result.now) c.deref-2.ensures.value
-    ∙ ap (fold (with_node c.in_ok-begun.begun.inputs.items c.in_ok-begun.begun.latches.items) c.begin_edges.new.builder) c.nodes.ensures in
-    (ready_three c.args.circuit.now c.counts-counts.ensures.circuit c.args.builder.now c.args.latches.now c.args.made c.requires.kept.0 c.args.n c.requires.kept.2 c.requires.kept.1 c.begin.new.self c.in_ok-begin.ensures.ok c.begin_edges.new.builder c.in_ok-begun.begun.inputs.items c.in_ok-begun.begun.latches.items c.in_ok-begun.ensures.inputs c.in_ok-begun.ensures.latches c.rebuild.new.self e3).count
+    (ready_three c.args.circuit.now c.counts-counts.ensures.circuit c.args.builder.now c.args.latches.now c.args.made c.requires.kept.0 c.args.n c.requires.kept.2 c.requires.kept.1 c.begin.new.self c.in_ok-begin.ensures.ok c.begin_edges.new.builder c.in_ok-begun.begun.inputs.items c.in_ok-begun.begun.latches.items c.in_ok-begun.ensures.inputs c.in_ok-begun.ensures.latches c.rebuild.new.builder c.in_ok-rebuild.ensures.ok).count
 
 pub give-requires-clause-from : goal.give-requires-clause-from
 give-requires-clause-from c =
-    let e3 : c.rebuild.new.self ≡ fold (with_node c.in_ok-begun.begun.inputs.items c.in_ok-begun.begun.latches.items) c.begin_edges.new.builder c.args.circuit.now.parts.nodes =
-    c.in_ok-rebuild.ensures.ok
-    ∙ ap (λ z. fold (with_node z c.deref-2.result.now) c.begin_edges.new.builder c.nodes.result.now) c.deref.ensures.value
-    ∙ ap (λ z. fold (with_node c.in_ok-begun.begun.inputs.items z) c.begin_edges.new.builder c.nodes.result.now) c.deref-2.ensures.value
-    ∙ ap (fold (with_node c.in_ok-begun.begun.inputs.items c.in_ok-begun.begun.latches.items) c.begin_edges.new.builder) c.nodes.ensures in
-    from_three c.args.circuit.now c.counts-counts.ensures.circuit c.args.builder.now c.args.latches.now c.args.made c.requires.kept.0 c.args.n c.requires.kept.2 c.requires.kept.1 c.begin.new.self c.in_ok-begin.ensures.ok c.begin_edges.new.builder c.in_ok-begun.begun.inputs.items c.in_ok-begun.begun.latches.items c.in_ok-begun.ensures.inputs c.in_ok-begun.ensures.latches c.rebuild.new.self e3
+    from_three c.args.circuit.now c.counts-counts.ensures.circuit c.args.builder.now c.args.latches.now c.args.made c.requires.kept.0 c.args.n c.requires.kept.2 c.requires.kept.1 c.begin.new.self c.in_ok-begin.ensures.ok c.begin_edges.new.builder c.in_ok-begun.begun.inputs.items c.in_ok-begun.begun.latches.items c.in_ok-begun.ensures.inputs c.in_ok-begun.ensures.latches c.rebuild.new.builder c.in_ok-rebuild.ensures.ok
 
 pub give-requires-clause-inputs : goal.give-requires-clause-inputs
 give-requires-clause-inputs c =
-    let e3 : c.rebuild.new.self ≡ fold (with_node c.in_ok-begun.begun.inputs.items c.in_ok-begun.begun.latches.items) c.begin_edges.new.builder c.args.circuit.now.parts.nodes =
-    c.in_ok-rebuild.ensures.ok
-    ∙ ap (λ z. fold (with_node z c.deref-2.result.now) c.begin_edges.new.builder c.nodes.result.now) c.deref.ensures.value
-    ∙ ap (λ z. fold (with_node c.in_ok-begun.begun.inputs.items z) c.begin_edges.new.builder c.nodes.result.now) c.deref-2.ensures.value
-    ∙ ap (fold (with_node c.in_ok-begun.begun.inputs.items c.in_ok-begun.begun.latches.items) c.begin_edges.new.builder) c.nodes.ensures in
-    inputs_three c.args.circuit.now c.counts-counts.ensures.circuit c.args.builder.now c.args.latches.now c.args.made c.requires.kept.0 c.args.n c.requires.kept.2 c.requires.kept.1 c.begin.new.self c.in_ok-begin.ensures.ok c.begin_edges.new.builder c.in_ok-begun.begun.inputs.items c.in_ok-begun.begun.latches.items c.in_ok-begun.ensures.inputs c.in_ok-begun.ensures.latches c.rebuild.new.self e3
+    inputs_three c.args.circuit.now c.counts-counts.ensures.circuit c.args.builder.now c.args.latches.now c.args.made c.requires.kept.0 c.args.n c.requires.kept.2 c.requires.kept.1 c.begin.new.self c.in_ok-begin.ensures.ok c.begin_edges.new.builder c.in_ok-begun.begun.inputs.items c.in_ok-begun.begun.latches.items c.in_ok-begun.ensures.inputs c.in_ok-begun.ensures.latches c.rebuild.new.builder c.in_ok-rebuild.ensures.ok
 
 pub give-requires-clause-latches : goal.give-requires-clause-latches
 give-requires-clause-latches c =
-    let e3 : c.rebuild.new.self ≡ fold (with_node c.in_ok-begun.begun.inputs.items c.in_ok-begun.begun.latches.items) c.begin_edges.new.builder c.args.circuit.now.parts.nodes =
-    c.in_ok-rebuild.ensures.ok
-    ∙ ap (λ z. fold (with_node z c.deref-2.result.now) c.begin_edges.new.builder c.nodes.result.now) c.deref.ensures.value
-    ∙ ap (λ z. fold (with_node c.in_ok-begun.begun.inputs.items z) c.begin_edges.new.builder c.nodes.result.now) c.deref-2.ensures.value
-    ∙ ap (fold (with_node c.in_ok-begun.begun.inputs.items c.in_ok-begun.begun.latches.items) c.begin_edges.new.builder) c.nodes.ensures in
-    latches_three c.args.circuit.now c.counts-counts.ensures.circuit c.args.builder.now c.args.latches.now c.args.made c.requires.kept.0 c.args.n c.requires.kept.2 c.requires.kept.1 c.begin.new.self c.in_ok-begin.ensures.ok c.begin_edges.new.builder c.in_ok-begun.begun.inputs.items c.in_ok-begun.begun.latches.items c.in_ok-begun.ensures.inputs c.in_ok-begun.ensures.latches c.rebuild.new.self e3
+    latches_three c.args.circuit.now c.counts-counts.ensures.circuit c.args.builder.now c.args.latches.now c.args.made c.requires.kept.0 c.args.n c.requires.kept.2 c.requires.kept.1 c.begin.new.self c.in_ok-begin.ensures.ok c.begin_edges.new.builder c.in_ok-begun.begun.inputs.items c.in_ok-begun.begun.latches.items c.in_ok-begun.ensures.inputs c.in_ok-begun.ensures.latches c.rebuild.new.builder c.in_ok-rebuild.ensures.ok
 
 pub returns-in_err-frame-clause-err : goal.returns-in_err-frame-clause-err
 returns-in_err-frame-clause-err c =
-    let e3 : c.rebuild.new.self ≡ fold (with_node c.in_ok-begun.begun.inputs.items c.in_ok-begun.begun.latches.items) c.begin_edges.new.builder c.args.circuit.now.parts.nodes =
-    c.in_ok-rebuild.ensures.ok
-    ∙ ap (λ z. fold (with_node z c.deref-2.result.now) c.begin_edges.new.builder c.nodes.result.now) c.deref.ensures.value
-    ∙ ap (λ z. fold (with_node c.in_ok-begun.begun.inputs.items z) c.begin_edges.new.builder c.nodes.result.now) c.deref-2.ensures.value
-    ∙ ap (fold (with_node c.in_ok-begun.begun.inputs.items c.in_ok-begun.begun.latches.items) c.begin_edges.new.builder) c.nodes.ensures in
-    on_err_at (IsLonger c.args.builder.now c.give.new.builder) c.from_residual-in_err-frame.result (subst (IsLonger c.args.builder.now) (sym c.in_err-frame.ensures.err) (longer_three c.args.circuit.now c.counts-counts.ensures.circuit c.args.builder.now c.args.latches.now c.args.made c.requires.kept.0 c.args.n c.requires.kept.2 c.requires.kept.1 c.begin.new.self c.in_ok-begin.ensures.ok c.begin_edges.new.builder c.in_ok-begun.begun.inputs.items c.in_ok-begun.begun.latches.items c.in_ok-begun.ensures.inputs c.in_ok-begun.ensures.latches c.rebuild.new.self e3))
+    on_err_at (IsLonger c.args.builder.now c.give.new.builder) c.from_residual-in_err-frame.result (subst (IsLonger c.args.builder.now) (sym c.in_err-frame.ensures.err) (longer_three c.args.circuit.now c.counts-counts.ensures.circuit c.args.builder.now c.args.latches.now c.args.made c.requires.kept.0 c.args.n c.requires.kept.2 c.requires.kept.1 c.begin.new.self c.in_ok-begin.ensures.ok c.begin_edges.new.builder c.in_ok-begun.begun.inputs.items c.in_ok-begun.begun.latches.items c.in_ok-begun.ensures.inputs c.in_ok-begun.ensures.latches c.rebuild.new.builder c.in_ok-rebuild.ensures.ok))
 
 pub returns-clause-frame : goal.returns-clause-frame
 returns-clause-frame c =
-    let e3 : c.rebuild.new.self ≡ fold (with_node c.in_ok-begun.begun.inputs.items c.in_ok-begun.begun.latches.items) c.begin_edges.new.builder c.args.circuit.now.parts.nodes =
-    c.in_ok-rebuild.ensures.ok
-    ∙ ap (λ z. fold (with_node z c.deref-2.result.now) c.begin_edges.new.builder c.nodes.result.now) c.deref.ensures.value
-    ∙ ap (λ z. fold (with_node c.in_ok-begun.begun.inputs.items z) c.begin_edges.new.builder c.nodes.result.now) c.deref-2.ensures.value
-    ∙ ap (fold (with_node c.in_ok-begun.begun.inputs.items c.in_ok-begun.begun.latches.items) c.begin_edges.new.builder) c.nodes.ensures in
-    frame_is c.args.circuit.now c.counts-counts.ensures.circuit c.args.builder.now c.args.latches.now c.args.made c.requires.kept.0 c.args.n c.requires.kept.2 c.requires.kept.1 c.begin.new.self c.in_ok-begin.ensures.ok c.begin_edges.new.builder c.in_ok-begun.begun.inputs.items c.in_ok-begun.begun.latches.items c.in_ok-begun.ensures.inputs c.in_ok-begun.ensures.latches c.rebuild.new.self e3 c.in_ok-frame.frame c.in_ok-frame.ensures.frame
+    frame_is c.args.circuit.now c.counts-counts.ensures.circuit c.args.builder.now c.args.latches.now c.args.made c.requires.kept.0 c.args.n c.requires.kept.2 c.requires.kept.1 c.begin.new.self c.in_ok-begin.ensures.ok c.begin_edges.new.builder c.in_ok-begun.begun.inputs.items c.in_ok-begun.begun.latches.items c.in_ok-begun.ensures.inputs c.in_ok-begun.ensures.latches c.rebuild.new.builder c.in_ok-rebuild.ensures.ok c.in_ok-frame.frame c.in_ok-frame.ensures.frame
 
 pub returns-clause-frames : goal.returns-clause-frames
 returns-clause-frames c =
-    let e3 : c.rebuild.new.self ≡ fold (with_node c.in_ok-begun.begun.inputs.items c.in_ok-begun.begun.latches.items) c.begin_edges.new.builder c.args.circuit.now.parts.nodes =
-    c.in_ok-rebuild.ensures.ok
-    ∙ ap (λ z. fold (with_node z c.deref-2.result.now) c.begin_edges.new.builder c.nodes.result.now) c.deref.ensures.value
-    ∙ ap (λ z. fold (with_node c.in_ok-begun.begun.inputs.items z) c.begin_edges.new.builder c.nodes.result.now) c.deref-2.ensures.value
-    ∙ ap (fold (with_node c.in_ok-begun.begun.inputs.items c.in_ok-begun.begun.latches.items) c.begin_edges.new.builder) c.nodes.ensures in
-    frames_are c.args.circuit.now c.counts-counts.ensures.circuit c.args.builder.now c.args.latches.now c.args.made c.requires.kept.0 c.args.n c.requires.kept.2 c.requires.kept.1 c.begin.new.self c.in_ok-begin.ensures.ok c.begin_edges.new.builder c.in_ok-begun.begun.inputs.items c.in_ok-begun.begun.latches.items c.in_ok-begun.ensures.inputs c.in_ok-begun.ensures.latches c.rebuild.new.self e3 c.give.new.builder c.in_ok-nexts.nexts.items c.in_ok-frame.ensures.ok (c.in_ok-nexts.ensures ∙ ap (map (edge_of c.rebuild.new.self.edges)) c.nexts.ensures)
+    frames_are c.args.circuit.now c.counts-counts.ensures.circuit c.args.builder.now c.args.latches.now c.args.made c.requires.kept.0 c.args.n c.requires.kept.2 c.requires.kept.1 c.begin.new.self c.in_ok-begin.ensures.ok c.begin_edges.new.builder c.in_ok-begun.begun.inputs.items c.in_ok-begun.begun.latches.items c.in_ok-begun.ensures.inputs c.in_ok-begun.ensures.latches c.rebuild.new.builder c.in_ok-rebuild.ensures.ok c.give.new.builder c.in_ok-nexts.nexts.items c.in_ok-frame.ensures.ok (c.in_ok-nexts.ensures ∙ ap (map (edge_of c.rebuild.new.builder.edges)) c.nexts.ensures)
 
 pub returns-clause-fresh : goal.returns-clause-fresh
 returns-clause-fresh c =
-    let e3 : c.rebuild.new.self ≡ fold (with_node c.in_ok-begun.begun.inputs.items c.in_ok-begun.begun.latches.items) c.begin_edges.new.builder c.args.circuit.now.parts.nodes =
-    c.in_ok-rebuild.ensures.ok
-    ∙ ap (λ z. fold (with_node z c.deref-2.result.now) c.begin_edges.new.builder c.nodes.result.now) c.deref.ensures.value
-    ∙ ap (λ z. fold (with_node c.in_ok-begun.begun.inputs.items z) c.begin_edges.new.builder c.nodes.result.now) c.deref-2.ensures.value
-    ∙ ap (fold (with_node c.in_ok-begun.begun.inputs.items c.in_ok-begun.begun.latches.items) c.begin_edges.new.builder) c.nodes.ensures in
-    fresh_is c.args.circuit.now c.counts-counts.ensures.circuit c.args.builder.now c.args.latches.now c.args.made c.requires.kept.0 c.args.n c.requires.kept.2 c.requires.kept.1 c.begin.new.self c.in_ok-begin.ensures.ok c.begin_edges.new.builder c.in_ok-begun.begun.inputs.items c.in_ok-begun.begun.latches.items c.in_ok-begun.ensures.inputs c.in_ok-begun.ensures.latches c.rebuild.new.self e3 c.in_ok-frame.frame c.in_ok-frame.ensures.frame
+    fresh_is c.args.circuit.now c.counts-counts.ensures.circuit c.args.builder.now c.args.latches.now c.args.made c.requires.kept.0 c.args.n c.requires.kept.2 c.requires.kept.1 c.begin.new.self c.in_ok-begin.ensures.ok c.begin_edges.new.builder c.in_ok-begun.begun.inputs.items c.in_ok-begun.begun.latches.items c.in_ok-begun.ensures.inputs c.in_ok-begun.ensures.latches c.rebuild.new.builder c.in_ok-rebuild.ensures.ok c.in_ok-frame.frame c.in_ok-frame.ensures.frame
