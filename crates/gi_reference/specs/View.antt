@@ -7,4 +7,13 @@ use Rattle.gi_model.specs.declared.solve.Solve.{Solve}
 use Rattle.gi_model.specs.declared.life.Life.{Life}
 
 abbrev pub state_of : Problem → List (List ℕ) → List ℕ → List Scope → Solve → ℕ → Life → State
-state_of problem known pending scopes solve serial life = record { problem = problem; known = known; pending = pending; scopes = scopes; solve = solve_of solve; serial = serial; life = life_of life }
+state_of problem known pending scopes solve serial life =
+    record {
+      problem = problem;
+      known = known;
+      pending = pending;
+      scopes = scopes;
+      solve = solve_of solve;
+      serial = serial;
+      life = life_of life;
+    }

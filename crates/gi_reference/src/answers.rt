@@ -131,7 +131,8 @@ impl Plain {
 
     /// Whether the answer is want of memory, where it may come.
     fn wants_memory(&self, call: &Call, reply: &Reply) -> bool
-        ensures { IsTrue result ↔ ((reply.now ≡ Reply.NoMemory) × (takes_memory self.now call.now ≡ true)) }
+        ensures { IsTrue result ↔ ((reply.now ≡ Reply.NoMemory)
+            × (takes_memory self.now call.now ≡ true)) }
     {
         if !is_no_memory(reply) {
             return false;
@@ -169,7 +170,8 @@ impl Plain {
 
     /// Whether the answer is the learnt clause of that number.
     fn answers_clause(&self, i: u32, reply: &Reply) -> Result<bool, AllocError>
-        ensures { IfOk result (λ b. IsTrue b ↔ (reply.now ≡ Reply.Clause (slice_index_or self.now.known (i - 1) []))) }
+        ensures { IfOk result (λ b. IsTrue b ↔ (reply.now
+            ≡ Reply.Clause (slice_index_or self.now.known (i - 1) []))) }
     {
         let clause = self.known_clause(i)?;
         Ok(is_clause(reply, &clause))
@@ -213,9 +215,10 @@ impl Plain {
         }
     }
 
-    /// Whether the entry, this call with this reply, is allowed here: the call may come, and the reply is
-    /// its refusal where the table names one, else one of its answers, or want of memory where it may come.
-    /// Tries all assignments where the answer speaks of truth: for small problems.
+    /// Whether the entry, this call with this reply, is allowed here: the call may come, and the
+    /// reply is its refusal where the table names one, else one of its answers, or want of memory
+    /// where it may come. Tries all assignments where the answer speaks of truth: for small
+    /// problems.
     pub fn allows(&self, call: &Call, reply: &Reply) -> Result<bool, AllocError>
         ensures { IfOk result (λ b. IsTrue b ↔ Allows self.now call.now reply.now) }
     {

@@ -13,7 +13,8 @@ use std::alloc::{AllocError, Global};
 
 /// A literal of the clause whose opposite isn't there.
 fn first_free(lits: &[Lit], clause: &[Lit]) -> Option<Lit>
-    ensures some { IfSome result (λ l. Contains clause.now l × (has lits.now (opposite l) ≡ false)) }
+    ensures some { IfSome result
+        (λ l. Contains clause.now l × (has lits.now (opposite l) ≡ false)) }
     ensures none { IfNone result (All (λ l. has lits.now (opposite l) ≡ true) clause.now) }
 {
     for l in clause {

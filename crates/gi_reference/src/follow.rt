@@ -47,9 +47,12 @@ impl Plain {
 
     /// Learns the news, and leaves the solve so, if it runs.
     fn learn(&mut self, news: &Clauses, now: &Now) -> Result<(), AllocError>
-        requires within { (r : Run) → live_run self.old ≡ Some r → r.spent + length news.now ≤ r.budget }
-        requires learns { (r : Run) → live_run self.old ≡ Some r → now.now ≡ Now.Live → 1 ≤ length news.now }
-        ensures { OnOk result (self.new ≡ worked (live_run self.old) (Reply.Worked news.now now.now) self.old) }
+        requires within { (r : Run) → live_run self.old ≡ Some r
+            → r.spent + length news.now ≤ r.budget }
+        requires learns { (r : Run) → live_run self.old ≡ Some r → now.now ≡ Now.Live
+            → 1 ≤ length news.now }
+        ensures { OnOk result (self.new ≡ worked (live_run self.old) (Reply.Worked news.now now.now)
+            self.old) }
     {
         if !self.is_alive() {
             return Ok(());
@@ -134,7 +137,8 @@ impl Plain {
         }
     }
 
-    /// Makes the state the one after an entry that it allows. Where memory is wanting the machine is dead.
+    /// Makes the state the one after an entry that it allows. Where memory is wanting the machine
+    /// is dead.
     pub fn follow(&mut self, call: &Call, reply: &Reply) -> Result<(), AllocError>
         requires { Allows self.old call.now reply.now }
         ensures ok { OnOk result (self.new ≡ after self.old call.now reply.now) }
@@ -163,11 +167,12 @@ impl Plain {
         }
     }
 
-    /// Follows the entry where it is allowed, and says whether it is; else nothing changes. Where memory is
-    /// wanting, nothing has changed or the machine is dead.
+    /// Follows the entry where it is allowed, and says whether it is; else nothing changes. Where
+    /// memory is wanting, nothing has changed or the machine is dead.
     pub fn step(&mut self, call: &Call, reply: &Reply) -> Result<bool, AllocError>
         ensures allowed { IfOk result (λ b. IsTrue b ↔ Allows self.old call.now reply.now) }
-        ensures state { IfOk result (λ b. self.new ≡ (if b then after self.old call.now reply.now else self.old)) }
+        ensures state { IfOk result
+            (λ b. self.new ≡ (if b then after self.old call.now reply.now else self.old)) }
         ensures err { OnErr result ((self.new ≡ self.old) ⊎ (self.new ≡ dead_state)) }
     {
         let allowed = self.allows(call, reply)?;

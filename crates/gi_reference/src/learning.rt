@@ -11,7 +11,8 @@ use std::alloc::{AllocError, Global};
 impl Store {
     /// Whether the clause is fresh and derived where those are known.
     fn may_learn(&self, alloc: Global, known: &[Clause], clause: &[Lit]) -> Result<bool, AllocError>
-        ensures { IfOk result (λ b. IsTrue b ↔ (IsFresh self.now known.now clause.now × IsDerived self.now known.now clause.now)) }
+        ensures { IfOk result (λ b. IsTrue b ↔ (IsFresh self.now known.now clause.now
+            × IsDerived self.now known.now clause.now)) }
     {
         if !self.are_live(clause) {
             return Ok(false);

@@ -112,7 +112,8 @@ impl Store {
         have_causes(alloc, whole.as_slice(), start.as_slice(), lits)
     }
 
-    /// Whether a test may list these: nothing conflicts, none stands twice or was there, and none is left out.
+    /// Whether a test may list these: nothing conflicts, none stands twice or was there, and none
+    /// is left out.
     fn may_imply(
         &self,
         alloc: Global,
@@ -120,7 +121,8 @@ impl Store {
         earlier: &[Lit],
         lits: &[Lit],
     ) -> Result<bool, AllocError>
-        ensures { IfOk result (λ b. IsTrue b ↔ ((¬ Conflicts (in_force self.now given.now) given.now) × Implies self.now given.now earlier.now lits.now)) }
+        ensures { IfOk result (λ b. IsTrue b ↔ ((¬ Conflicts (in_force self.now given.now)
+            given.now) × Implies self.now given.now earlier.now lits.now)) }
     {
         let forced = self.in_force(given)?;
         let outcome = closure(alloc, forced.as_slice(), given)?;
@@ -170,7 +172,9 @@ impl Plain {
 
     /// Whether a test may list these.
     fn may_find(&self, lits: &Lits) -> Result<bool, AllocError>
-        ensures { IfOk result (λ b. IsTrue b ↔ ((¬ MustFail self.now) × Implies self.now.problem (all_assumed self.now) (scope_listed self.now.scopes) lits.now)) }
+        ensures { IfOk result (λ b. IsTrue b ↔ ((¬ MustFail self.now)
+            × Implies self.now.problem (all_assumed self.now) (scope_listed self.now.scopes)
+            lits.now)) }
     {
         let wanted = lits.as_slice();
         if some_failed(self.scopes.as_slice()) {
@@ -184,7 +188,9 @@ impl Plain {
 
     /// Whether a test may fail with these.
     fn may_find_failing(&self, failed: &Lits) -> Result<bool, AllocError>
-        ensures { IfOk result (λ b. IsTrue b ↔ (MustFail self.now × IsSublist failed.now (all_assumed self.now) × Fail (in_force self.now.problem failed.now) failed.now)) }
+        ensures { IfOk result (λ b. IsTrue b ↔ (MustFail self.now
+            × IsSublist failed.now (all_assumed self.now)
+            × Fail (in_force self.now.problem failed.now) failed.now)) }
     {
         let some = failed.as_slice();
         let given = self.all_assumed()?;

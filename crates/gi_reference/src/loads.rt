@@ -30,7 +30,7 @@ pub fn read_payload(alloc: Global, bytes: &Bytes) -> Result<Payload, AllocError>
     let mut reader = CnfReader::new(alloc);
     reader.feed(bytes.as_slice())?;
     match reader.finish() {
-        CnfRead::Cnf(cnf) => Ok(Payload {
+        CnfRead::Value(cnf) => Ok(Payload {
             vars: cnf.vars,
             clauses: cnf.clauses,
             refused: None,
@@ -49,7 +49,8 @@ pub fn read_payload(alloc: Global, bytes: &Bytes) -> Result<Payload, AllocError>
 }
 
 impl Plain {
-    /// Whether some literal of the payload is neither of a problem variable nor of one that isn't there yet.
+    /// Whether some literal of the payload is neither of a problem variable nor of one that isn't
+    /// there yet.
     pub(crate) fn has_unusable(&self, payload: &Payload) -> bool
         ensures { result ≡ list_any (some_unusable self.now.problem) payload.now.clauses }
     {
@@ -58,7 +59,8 @@ impl Plain {
 
     /// Whether the problem would be too great with the payload.
     pub(crate) fn is_past_with(&self, payload: &Payload) -> bool
-        ensures { result ≡ is_past (with_clauses payload.now.clauses (grown payload.now.vars self.now.problem)) }
+        ensures { result ≡ is_past (with_clauses payload.now.clauses
+            (grown payload.now.vars self.now.problem)) }
     {
         self.store.is_past_with(payload.vars, &payload.clauses)
     }
@@ -74,7 +76,8 @@ impl Plain {
     /// The variables and clauses of a payload more.
     pub(crate) fn load(&mut self, bytes: &Bytes) -> Result<(), AllocError>
         requires { is_past (with_file (loaded bytes.now) self.old.problem) ≡ false }
-        ensures { OnOk result (self.new ≡ with_problem (with_file (loaded bytes.now) self.old.problem) self.old) }
+        ensures { OnOk result (self.new ≡ with_problem
+            (with_file (loaded bytes.now) self.old.problem) self.old) }
     {
         let payload = read_payload(self.alloc, bytes)?;
         self.store.grow(payload.vars);

@@ -34,7 +34,8 @@ impl Model for Plain {
 
     ghost Value = { State };
 
-    ghost view = { λ p. state_of p.store p.known.items p.pending p.scopes.items p.solve p.serial p.life };
+    ghost view = { λ p. state_of p.store p.known.items p.pending p.scopes.items p.solve p.serial
+        p.life };
 }
 
 impl Plain {
@@ -65,7 +66,8 @@ impl Plain {
 
     /// A plain clause more.
     pub(crate) fn put_clause(&mut self, c: &Clause) -> Result<(), AllocError>
-        ensures { OnOk result (self.new ≡ with_problem (with_clause c.now self.old.problem) self.old) }
+        ensures { OnOk result (self.new ≡ with_problem (with_clause c.now self.old.problem)
+            self.old) }
     {
         self.store.add(c)?;
         self.solve.forget();
@@ -74,7 +76,8 @@ impl Plain {
 
     /// A clause more under guards.
     pub(crate) fn put_group(&mut self, guards: &Guards, c: &Clause) -> Result<(), AllocError>
-        ensures { OnOk result (self.new ≡ with_problem (with_group guards.now c.now self.old.problem) self.old) }
+        ensures { OnOk result (self.new ≡ with_problem
+            (with_group guards.now c.now self.old.problem) self.old) }
     {
         self.store.under(guards, c)?;
         self.solve.forget();
@@ -137,7 +140,8 @@ impl Plain {
 
     /// Hands out a guard.
     pub(crate) fn make_guard(&mut self) -> Result<(), AllocError>
-        requires { ((length self.old.problem.freed == 0) && nat_le max_var self.old.problem.vars) ≡ false }
+        requires { ((length self.old.problem.freed == 0) && nat_le max_var self.old.problem.vars)
+            ≡ false }
         ensures { OnOk result (self.new ≡ with_problem (with_guard self.old.problem) self.old) }
     {
         self.store.new_guard()?;

@@ -50,7 +50,8 @@ fn before(alloc: Global, levels: &[Level], m: Lit) -> Result<Lits, AllocError>
 
 /// Whether each reason is the opposite of a literal of the clause other than m.
 fn are_opposites(clause: &[Lit], m: Lit, reasons: &[Lit]) -> bool
-    ensures { result ≡ list_all (λ r. not (opposite r == m) && has clause.now (opposite r)) reasons.now }
+    ensures { result ≡ list_all (λ r. not (opposite r == m) && has clause.now (opposite r))
+        reasons.now }
 {
     let code = m.code();
     reasons

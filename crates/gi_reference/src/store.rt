@@ -9,7 +9,7 @@ ghost use Rattle.gi_model.specs.Replies.{model_from, model_of};
 
 use crate::lists::{append_copies, has_var, without};
 use gi_lit::{Clause, Clauses, Guards, Lit, Lits, MAX_VAR, Var, top_variable};
-use gi_model::lists::{append, has_lit};
+use gi_model::lists::{append, count_given, has_lit};
 use gi_model::{MAX_CLAUSES, MAX_LITS};
 use std::alloc::{AllocError, Global};
 use std::marker::Model;
@@ -50,7 +50,13 @@ impl Model for Store {
 
     ghost invariant = { λ s. s.vars ≤ max_var };
 
-    ghost view = { λ s. record { vars = s.vars; plain = s.plain.items; groups = s.groups.items; active = s.active.items; freed = s.freed.items } };
+    ghost view = { λ s. record {
+      vars = s.vars;
+      plain = s.plain.items;
+      groups = s.groups.items;
+      active = s.active.items;
+      freed = s.freed.items;
+    } };
 }
 
 /// What is left of the room once the clauses are in; None where they don't fit.
@@ -74,13 +80,6 @@ fn left_by_groups(groups: &[Guarded], room: u128) -> Option<u128>
         left = left.checked_sub(group.lits())?;
     }
     Some(left)
-}
-
-/// How many literals a clause under guards has as given: its own, and one for each guard after the first.
-fn count_given(guards: &[Var], clause: &[Lit]) -> u128
-    ensures { result ≡ length clause.now + (length guards.now - 1) }
-{
-    clause.len() as u128 + guards.len().saturating_sub(1) as u128
 }
 
 /// Whether each guard's positive literal is given.
@@ -214,7 +213,8 @@ impl Store {
         top_variable(clause) > MAX_VAR || self.has_too_many_clauses(1) || self.lacks_lits(lits)
     }
 
-    /// Whether some literal of the clauses is neither of a problem variable nor of one that isn't there yet.
+    /// Whether some literal of the clauses is neither of a problem variable nor of one that isn't
+    /// there yet.
     pub fn some_have_unusable(&self, clauses: &Clauses) -> bool
         ensures { result ≡ list_any (some_unusable self.now) clauses.now }
     {
@@ -296,7 +296,8 @@ impl Store {
         self.freed.len() == 0 && self.vars >= MAX_VAR
     }
 
-    /// What a model tells of the variable at this place, from 0: its literal, if it's a problem variable.
+    /// What a model tells of the variable at this place, from 0: its literal, if it's a problem
+    /// variable.
     #[tactic(auto, unfolding(gi_model::specs::Replies::model_from))]
     fn told(&self, place: usize, value: bool) -> Option<Lit>
         ensures some { IfSome result (λ l. model_from self.now (place + 1) (value ∷ []) ≡ l ∷ []) }
@@ -406,7 +407,8 @@ impl Store {
 
     /// Whether each literal is of a problem variable or an active guard.
     pub fn are_live(&self, lits: &[Lit]) -> bool
-        ensures { result ≡ list_all (λ l. is_problem_var self.now (l / 2) || has self.now.active (l / 2)) lits.now }
+        ensures { result ≡ list_all (λ l. is_problem_var self.now (l / 2)
+            || has self.now.active (l / 2)) lits.now }
     {
         lits.iter().all(|l| self.is_problem_var(l.var()) || self.is_active(l.var()))
     }

@@ -37,7 +37,8 @@ fn makes_true(values: &[bool], lits: &[Lit]) -> bool
 
 /// Whether the values satisfy the clauses and make the literals true.
 pub fn is_model(values: &[bool], clauses: &[Clause], lits: &[Lit]) -> bool
-    ensures { result ≡ (list_all (clause_true values.now) clauses.now && list_all (true_in values.now) lits.now) }
+    ensures { result ≡ (list_all (clause_true values.now) clauses.now
+        && list_all (true_in values.now) lits.now) }
 {
     satisfies(values, clauses) && makes_true(values, lits)
 }
@@ -59,7 +60,8 @@ fn fails_from(clauses: &[Clause], lits: &[Lit], values: &mut [bool], free: usize
     requires clauses { All (IsWithin (length values.old)) clauses.now }
     requires lits { IsWithin (length values.old) lits.now }
     requires free { free ≤ length values.old }
-    ensures rest { (k : ℕ) → free ≤ k → slice_index_or values.new k false ≡ slice_index_or values.old k false }
+    ensures rest { (k : ℕ) → free ≤ k
+        → slice_index_or values.new k false ≡ slice_index_or values.old k false }
     ensures fails { IsTrue result ↔ FailsFrom clauses.now lits.now free values.old }
 {
     if free == 0 {

@@ -31,7 +31,8 @@ fn spent_with(run: &Run, news: &[Clause]) -> u128
     run.spent as u128 + news.len() as u128
 }
 
-/// Whether the news are no more than the slice may learn that has this place among those of its solve, from 0.
+/// Whether the news are no more than the slice may learn that has this place among those of its
+/// solve, from 0.
 fn is_paced(place: u32, news: &[Clause]) -> bool
     ensures { IsTrue result ↔ IsPaced (place + 1) news.now }
 {
@@ -88,9 +89,11 @@ impl Plain {
         Ok(is_model(values.as_slice(), forced.as_slice(), assumed.as_slice()))
     }
 
-    /// Whether these are some of the assumptions, fail, and unit closure over all that is known finds it.
+    /// Whether these are some of the assumptions, fail, and unit closure over all that is known
+    /// finds it.
     fn may_fail(&self, assumed: &Lits, known: &[Clause], failed: &Lits) -> Result<bool, AllocError>
-        ensures { IfOk result (λ b. IsTrue b ↔ IsFailing self.now.problem assumed.now known.now failed.now) }
+        ensures { IfOk result (λ b. IsTrue b ↔ IsFailing self.now.problem assumed.now known.now
+            failed.now) }
     {
         let some = failed.as_slice();
         if !is_sublist(some, assumed.as_slice()) {
@@ -108,7 +111,8 @@ impl Plain {
 
     /// Whether a slice that neither was stopped nor spent its budget may end so.
     fn may_end(&self, run: &Run, news: &[Clause], verdict: &Verdict) -> Result<bool, AllocError>
-        ensures { IfOk result (λ b. IsTrue b ↔ EndsWith self.now (run_of run.now) news.now verdict.now) }
+        ensures { IfOk result (λ b. IsTrue b ↔ EndsWith self.now (run_of run.now) news.now
+            verdict.now) }
     {
         match verdict {
             Verdict::Sat(values) => self.may_satisfy(&run.assumed, values),
@@ -128,7 +132,8 @@ impl Plain {
         news: &[Clause],
         now: &Now,
     ) -> Result<bool, AllocError>
-        ensures { IfOk result (λ b. IsTrue b ↔ EndsWork self.now (run_of run.now) mark news.now now.now) }
+        ensures { IfOk result (λ b. IsTrue b ↔ EndsWork self.now (run_of run.now) mark news.now
+            now.now) }
     {
         if mark >= run.serial {
             return Ok(ends_unknown(now, Cause::Stopped(mark)));
@@ -144,7 +149,8 @@ impl Plain {
 
     /// Whether a slice may learn the news and leave its solve so.
     fn may_work(&self, run: &Run, mark: u64, news: &[Clause], now: &Now) -> Result<bool, AllocError>
-        ensures { IfOk result (λ b. IsTrue b ↔ Works self.now (run_of run.now) mark news.now now.now) }
+        ensures { IfOk result (λ b. IsTrue b ↔ Works self.now (run_of run.now) mark news.now
+            now.now) }
     {
         if news.len() > MAX_NEWS as usize {
             return Ok(false);
@@ -166,7 +172,8 @@ impl Plain {
 
     /// Whether a slice of work may be answered so.
     pub(crate) fn answers_work(&self, mark: u64, reply: &Reply) -> Result<bool, AllocError>
-        ensures { IfOk result (λ b. IsTrue b ↔ AnswersWork self.now (live_run self.now) mark reply.now) }
+        ensures { IfOk result (λ b. IsTrue b ↔ AnswersWork self.now (live_run self.now) mark
+            reply.now) }
     {
         if !self.is_alive() {
             return Ok(is_idle(reply));
