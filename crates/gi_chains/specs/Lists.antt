@@ -1,6 +1,7 @@
 use Rattle.std.specs.Prelude.{◌≡◌, ℕ, ◌-◌, ◌<◌, List, [], ◌++◌, length, max, replicate, slice_index, slice_index_or, slice_set}
 
--- what contracts see of the chains: the lists, each from its first node on, how many nodes there are, and the word of each
+-- what contracts see of the chains: the lists, each from its first node on, how many nodes there
+-- are, and the word of each
 pub record Lists : Type 0 where
   pub lists : List (List ℕ)
   pub nodes : ℕ
@@ -41,4 +42,8 @@ with_word c node word = record c { words = slice_set c.words node word }
 
 -- empty lists follow until there are so many, and free nodes with the word 0 likewise; none goes
 abbrev pub grown : Lists → ℕ → ℕ → Lists
-grown c lists nodes = record { lists = c.lists ++ replicate (lists - length c.lists) []; nodes = max c.nodes nodes; words = c.words ++ replicate (nodes - c.nodes) 0 }
+grown c lists nodes = record {
+  lists = c.lists ++ replicate (lists - length c.lists) [];
+  nodes = max c.nodes nodes;
+  words = c.words ++ replicate (nodes - c.nodes) 0;
+}

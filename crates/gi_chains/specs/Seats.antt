@@ -17,7 +17,8 @@ words_of = map (λ (s : Seat). s.word)
 abbrev pub blank_seat : Seat
 blank_seat = record { node = blank; word = 0 }
 
--- the nodes link the lists that are walked, and lists and nodes are so few that a link fits its word
+-- the nodes link the lists that are walked, and lists and nodes are so few that a link fits its
+-- word
 pub record IsCompact (ends : List Ends) (seats : List Seat) : Type 0 where
   pub chained : IsChained ends (nodes_of seats) (walked ends (nodes_of seats))
   pub few_lists : length ends < 2 ^ 32

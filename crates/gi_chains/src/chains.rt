@@ -14,8 +14,9 @@ const MAX_NODES: u64 = 4_294_967_295;
 /// From so many items on memory doesn't grow twofold.
 const MANY: usize = 16_777_216;
 
-/// Doubly linked lists of nodes. Lists and nodes go by their numbers, from 0, and a node stands in at most one list. Each node keeps a word for
-/// its user, 0 at first, which no call but `set_word` changes.
+/// Doubly linked lists of nodes. Lists and nodes go by their numbers, from 0, and a node stands in
+/// at most one list. Each node keeps a word for its user, 0 at first, which no call but `set_word`
+/// changes.
 ///
 /// A list takes 8 bytes and a node 16. Every call but `grow` takes constant time and no memory.
 #[derive(Debug, Drop)]
@@ -32,7 +33,11 @@ impl Model for Chains {
 
     ghost Value = { Lists };
 
-    ghost view = { λ c. record { lists = walked c.ends.items (nodes_of c.seats.items); nodes = length c.seats.items; words = words_of c.seats.items } };
+    ghost view = { λ c. record {
+      lists = walked c.ends.items (nodes_of c.seats.items);
+      nodes = length c.seats.items;
+      words = words_of c.seats.items;
+    } };
 
     ghost invariant = { λ c. IsCompact c.ends.items c.seats.items };
 }
@@ -49,11 +54,12 @@ impl Chains {
         }
     }
 
-    /// Makes the lists below `lists` and the nodes 0 to `last`, those that are missing: the new lists are empty, and
-    /// the new nodes stand in no list and have the word 0. Lists and nodes that exist stay as they are.
+    /// Makes the lists below `lists` and the nodes 0 to `last`, those that are missing: the new
+    /// lists are empty, and the new nodes stand in no list and have the word 0. Lists and nodes
+    /// that exist stay as they are.
     ///
-    /// The only error is want of memory, as where `last` is 2^32 - 1 or more. The cost is amortised: constant for each
-    /// list and each node.
+    /// The only error is want of memory, as where `last` is 2^32 - 1 or more. The cost is
+    /// amortised: constant for each list and each node.
     pub fn grow(&mut self, lists: u32, last: u64) -> Result<(), AllocError>
         ensures ok { OnOk result (self.new ≡ grown self.old lists (last + 1)) }
         ensures err { OnErr result (self.new ≡ self.old) }
@@ -89,10 +95,12 @@ impl Chains {
         self.ends[list as usize].first.number()
     }
 
-    /// The node that follows in the same list; None exactly where the node is the last of its list or in no list.
+    /// The node that follows in the same list; None exactly where the node is the last of its list
+    /// or in no list.
     pub fn next(&self, node: u64) -> Option<u64>
         requires { node < self.now.nodes }
-        ensures linked { (l i : ℕ) → StandsAt self.now.lists l i node → result ≡ slice_get (items_at self.now.lists l) (i + 1) }
+        ensures linked { (l i : ℕ) → StandsAt self.now.lists l i node
+            → result ≡ slice_get (items_at self.now.lists l) (i + 1) }
         ensures free { IsFree self.now.lists node → result ≡ None }
     {
         node_of(self.seats.as_slice(), node as u32).next.number()
@@ -101,7 +109,8 @@ impl Chains {
     /// The list in which a node stands; None exactly where it is in no list.
     pub fn list_of(&self, node: u64) -> Option<u32>
         requires { node < self.now.nodes }
-        ensures value { MatchOption result (IsFree self.now.lists node) (λ l. (i : ℕ) × StandsAt self.now.lists l i node) }
+        ensures value { MatchOption result (IsFree self.now.lists node)
+            (λ l. (i : ℕ) × StandsAt self.now.lists l i node) }
         ensures apart { IsApart self.now }
     {
         node_of(self.seats.as_slice(), node as u32).list.get()
@@ -141,7 +150,8 @@ impl Chains {
         requires list { list < length self.old.lists }
         requires node { node < self.old.nodes }
         requires free { IsFree self.old.lists node }
-        ensures after { self.new ≡ with_list self.old list (items_at self.old.lists list ++ node ∷ []) }
+        ensures after { self.new ≡ with_list self.old list
+            (items_at self.old.lists list ++ node ∷ []) }
         ensures apart { IsApart self.new }
     {
         link_back(&mut self.ends, &mut self.seats, list, node as u32);
@@ -150,7 +160,8 @@ impl Chains {
     /// Takes a node out of its list; the others of the list close up.
     pub fn unlink(&mut self, node: u64)
         requires { IsLinked self.old.lists node }
-        ensures after { (l i : ℕ) → StandsAt self.old.lists l i node → self.new ≡ with_list self.old l (remove (items_at self.old.lists l) i) }
+        ensures after { (l i : ℕ) → StandsAt self.old.lists l i node
+            → self.new ≡ with_list self.old l (remove (items_at self.old.lists l) i) }
         ensures apart { IsApart self.new }
     {
         let _ = &self.ends;
@@ -158,10 +169,12 @@ impl Chains {
         cut(&mut self.ends, &mut self.seats, at);
     }
 
-    /// Makes a node the first of the list in which it stands; the others of the list keep their order.
+    /// Makes a node the first of the list in which it stands; the others of the list keep their
+    /// order.
     pub fn move_to_front(&mut self, node: u64)
         requires { IsLinked self.old.lists node }
-        ensures after { (l i : ℕ) → StandsAt self.old.lists l i node → self.new ≡ with_list self.old l (node ∷ remove (items_at self.old.lists l) i) }
+        ensures after { (l i : ℕ) → StandsAt self.old.lists l i node
+            → self.new ≡ with_list self.old l (node ∷ remove (items_at self.old.lists l) i) }
         ensures apart { IsApart self.new }
     {
         let _ = self.lists();
@@ -173,8 +186,8 @@ impl Chains {
     }
 }
 
-/// Makes room for more items: for as many again as there are, so that a push costs constant time, and where there are many already for an eighth
-/// of them.
+/// Makes room for more items: for as many again as there are, so that a push costs constant time,
+/// and where there are many already for an eighth of them.
 fn make_room<T>(items: &mut Vec<T>, more: usize) -> Result<(), AllocError>
     ensures items { items.new.items ≡ items.old.items }
     ensures ok { OnOk result (length items.new.items + more ≤ vec_capacity items.new) }

@@ -4,7 +4,8 @@ ghost use Rattle.gi_chains.specs.Words.{kept_if_some};
 
 use std::marker::Model;
 
-/// A number below 2^32 - 1, as that of a node, a list or a place, or none, in one word of 32 bits. Contracts see an optional number.
+/// A number below 2^32 - 1, as that of a node, a list or a place, or none, in one word of 32 bits.
+/// Contracts see an optional number.
 #[derive(Clone, Copy, Debug)]
 pub struct Link {
     /// 0 for none, else the number and one.

@@ -79,13 +79,15 @@ fn set_next(seats: &mut [Seat], at: Link, next: Link)
 
 /// Links a node before the first of a list.
 pub(crate) fn link_front(ends: &mut [Ends], seats: &mut [Seat], list: u32, node: u32)
-    requires chained { let nodes = nodes_of seats.old in IsChained ends.old nodes (walked ends.old nodes) }
+    requires chained { let nodes = nodes_of seats.old in IsChained ends.old nodes
+        (walked ends.old nodes) }
     requires few_lists { length ends.old < 2 ^ 32 }
     requires few_nodes { length seats.old < 2 ^ 32 }
     requires list { list < length (walked ends.old (nodes_of seats.old)) }
     requires node { node < length seats.old }
     requires free { IsFree (walked ends.old (nodes_of seats.old)) node }
-    ensures chained { let lists = walked ends.old (nodes_of seats.old) in IsChained ends.new (nodes_of seats.new) (slice_set lists list (node ∷ items_at lists list)) }
+    ensures chained { let lists = walked ends.old (nodes_of seats.old) in IsChained ends.new
+        (nodes_of seats.new) (slice_set lists list (node ∷ items_at lists list)) }
     ensures words { words_of seats.new ≡ words_of seats.old }
 {
     let old = ends[list as usize];
@@ -104,13 +106,15 @@ pub(crate) fn link_front(ends: &mut [Ends], seats: &mut [Seat], list: u32, node:
 
 /// Links a node behind the last of a list.
 pub(crate) fn link_back(ends: &mut [Ends], seats: &mut [Seat], list: u32, node: u32)
-    requires chained { let nodes = nodes_of seats.old in IsChained ends.old nodes (walked ends.old nodes) }
+    requires chained { let nodes = nodes_of seats.old in IsChained ends.old nodes
+        (walked ends.old nodes) }
     requires few_lists { length ends.old < 2 ^ 32 }
     requires few_nodes { length seats.old < 2 ^ 32 }
     requires list { list < length (walked ends.old (nodes_of seats.old)) }
     requires node { node < length seats.old }
     requires free { IsFree (walked ends.old (nodes_of seats.old)) node }
-    ensures chained { let lists = walked ends.old (nodes_of seats.old) in IsChained ends.new (nodes_of seats.new) (slice_set lists list (items_at lists list ++ node ∷ [])) }
+    ensures chained { let lists = walked ends.old (nodes_of seats.old) in IsChained ends.new
+        (nodes_of seats.new) (slice_set lists list (items_at lists list ++ node ∷ [])) }
     ensures words { words_of seats.new ≡ words_of seats.old }
 {
     let old = ends[list as usize];
@@ -129,10 +133,14 @@ pub(crate) fn link_back(ends: &mut [Ends], seats: &mut [Seat], list: u32, node: 
 
 /// Takes a node out of its list.
 pub(crate) fn cut(ends: &mut [Ends], seats: &mut [Seat], node: u32)
-    requires chained { let nodes = nodes_of seats.old in IsChained ends.old nodes (walked ends.old nodes) }
+    requires chained { let nodes = nodes_of seats.old in IsChained ends.old nodes
+        (walked ends.old nodes) }
     requires linked { IsLinked (walked ends.old (nodes_of seats.old)) node }
     requires node { node < length seats.old }
-    ensures chained { let lists = walked ends.old (nodes_of seats.old) in (l i : ℕ) → StandsAt lists l i node → IsChained ends.new (nodes_of seats.new) (slice_set lists l (remove (items_at lists l) i)) }
+    ensures chained { let lists = walked ends.old (nodes_of seats.old) in (l i : ℕ)
+        → StandsAt lists l i node
+        → IsChained ends.new (nodes_of seats.new)
+        (slice_set lists l (remove (items_at lists l) i)) }
     ensures words { words_of seats.new ≡ words_of seats.old }
 {
     let at = node_of(seats, node);
