@@ -58,21 +58,24 @@ IsLive h key = Contains (keys_of h) key
 
 -- no key that stays in use changes its clause
 pub record Keeps (old new : StoreView) : Type 0 where
-  pub each : (key : ℕ) (clause : List ℕ) → Holds old key clause → IsLive new key → Holds new key clause
+  pub each : (key : ℕ) (clause : List ℕ) → Holds old key clause → IsLive new key
+      → Holds new key clause
 
 -- with one clause more
 abbrev pub with_plain : ℕ → List ℕ → StoreView → StoreView
 with_plain key c h = record h { plain = h.plain ++ record { key = key; lits = c } ∷ [] }
 
 abbrev pub with_under : ℕ → List ℕ → List ℕ → StoreView → StoreView
-with_under key guards c h = record h { groups = h.groups ++ record { key = key; guards = guards; clause = c } ∷ [] }
+with_under key guards c h =
+    record h { groups = h.groups ++ record { key = key; guards = guards; clause = c } ∷ [] }
 
 abbrev pub with_learnt : ℕ → List ℕ → StoreView → StoreView
 with_learnt key c h = record h { learnt = h.learnt ++ record { key = key; lits = c } ∷ [] }
 
 -- with one guard more
 abbrev pub with_new_guard : StoreView → StoreView
-with_new_guard h = let p = with_guard (problem_of h) in record h { vars = p.vars; active = p.active; freed = p.freed }
+with_new_guard h = let p =
+    with_guard (problem_of h) in record h { vars = p.vars; active = p.active; freed = p.freed }
 
 -- an active guard freed: the groups that name it are gone, and the learnt clauses with its variable
 abbrev pub without_guard_of : ℕ → StoreView → StoreView

@@ -51,7 +51,8 @@ pub(crate) fn make_room(
     ensures capacity { vec_capacity freed.old ≤ vec_capacity freed.new }
     ensures kind_room { OnOk result (vec_len kinds.new + 1 ≤ vec_capacity kinds.new) }
     ensures active_room { OnOk result (vec_len active.new + 1 ≤ vec_capacity active.new) }
-    ensures freed_room { OnOk result (vec_len freed.new + (vec_len active.new + 1) ≤ vec_capacity freed.new) }
+    ensures freed_room { OnOk result
+        (vec_len freed.new + (vec_len active.new + 1) ≤ vec_capacity freed.new) }
 {
     kinds.reserve(1)?;
     active.reserve(1)?;

@@ -2,7 +2,8 @@ ghost use Rattle.std.specs.Prelude.{◌≡◌, ◌+◌, ◌<◌, ◌^◌};
 
 use std::marker::Model;
 
-/// The name of a stored clause, which the store picks. Contracts see its number, which is below 2^32 - 1.
+/// The name of a stored clause, which the store picks. Contracts see its number, which is below
+/// 2^32 - 1.
 #[derive(Clone, Copy, Debug, PartialEq, Eq)]
 pub struct Key {
     slot: u32,

@@ -45,8 +45,10 @@ fn forget(slots: &mut Slab<Lits>, key: Key)
 /// Takes away the clauses that have a literal of the variable, and keeps the others in order.
 pub(crate) fn forget_naming(slots: &mut Slab<Lits>, keys: &mut Vec<Key>, v: Var)
     requires distinct { IsDistinct keys.old.items }
-    ensures kept { keys.new.items ≡ filter (λ k. not (names v (clause_at slots.old k))) keys.old.items }
-    ensures others { (k : ℕ) → ¬ (Contains keys.old.items k × (names v (clause_at slots.old k) ≡ true)) → get slots.new k ≡ get slots.old k }
+    ensures kept { keys.new.items
+        ≡ filter (λ k. not (names v (clause_at slots.old k))) keys.old.items }
+    ensures others { (k : ℕ) → ¬ (Contains keys.old.items k
+        × (names v (clause_at slots.old k) ≡ true)) → get slots.new k ≡ get slots.old k }
 {
     let mut kept = 0;
     for i in 0..keys.len() {
@@ -65,7 +67,8 @@ pub(crate) fn forget_naming(slots: &mut Slab<Lits>, keys: &mut Vec<Key>, v: Var)
 pub(crate) fn forget_first(slots: &mut Slab<Lits>, keys: &mut Vec<Key>, count: usize)
     requires count { count ≤ length keys.old.items }
     ensures kept { keys.new.items ≡ drop count keys.old.items }
-    ensures others { (k : ℕ) → ¬ Contains (take count keys.old.items) k → get slots.new k ≡ get slots.old k }
+    ensures others { (k : ℕ) → ¬ Contains (take count keys.old.items) k
+        → get slots.new k ≡ get slots.old k }
 {
     for i in 0..count {
         forget(slots, keys[i]);
@@ -81,8 +84,8 @@ pub(crate) fn room_of(slots: &Slab<Lits>) -> u64
     slots.capacity() as u64
 }
 
-/// Makes room for a clause more: for as many again as there are, so that an insert costs constant time, and where there are many already for an
-/// eighth of them.
+/// Makes room for a clause more: for as many again as there are, so that an insert costs constant
+/// time, and where there are many already for an eighth of them.
 fn make_room(slots: &mut Slab<Lits>) -> Result<(), AllocError>
     ensures room { OnOk result (HasRoomFor slots.new 1) }
     ensures rest { slots.new ≡ record slots.old { capacity = slots.new.capacity } }
@@ -115,7 +118,8 @@ pub(crate) fn insert(
     ensures keys { IfOk result (λ k. keys.new.items ≡ keys.old.items ++ k ∷ []) }
     ensures vacant { IfOk result (λ k. get slots.old k ≡ None) }
     ensures updates { IfOk result (λ k. Updates slots.old slots.new k (Some clause)) }
-    ensures err { OnErr result ((keys.new.items ≡ keys.old.items) × ((k : ℕ) → get slots.new k ≡ get slots.old k)) }
+    ensures err { OnErr result
+        ((keys.new.items ≡ keys.old.items) × ((k : ℕ) → get slots.new k ≡ get slots.old k)) }
 {
     keys.reserve(1)?;
     make_room(slots)?;
@@ -132,10 +136,12 @@ pub(crate) fn insert_group(
     clause: Lits,
     guards: usize,
 ) -> Result<Key, AllocError>
-    ensures groups { IfOk result (λ k. groups.new.items ≡ groups.old.items ++ record { key = k; guards = guards } ∷ []) }
+    ensures groups { IfOk result
+        (λ k. groups.new.items ≡ groups.old.items ++ record { key = k; guards = guards } ∷ []) }
     ensures vacant { IfOk result (λ k. get slots.old k ≡ None) }
     ensures updates { IfOk result (λ k. Updates slots.old slots.new k (Some clause)) }
-    ensures err { OnErr result ((groups.new.items ≡ groups.old.items) × ((k : ℕ) → get slots.new k ≡ get slots.old k)) }
+    ensures err { OnErr result
+        ((groups.new.items ≡ groups.old.items) × ((k : ℕ) → get slots.new k ≡ get slots.old k)) }
 {
     groups.reserve(1)?;
     make_room(slots)?;
@@ -173,14 +179,17 @@ fn group_length(slots: &Slab<Lits>, key: Key) -> u64
     }
 }
 
-/// Takes away the groups that name the guard, and keeps the others in order. Answers how many literals
-/// these had as given.
+/// Takes away the groups that name the guard, and keeps the others in order. Answers how many
+/// literals these had as given.
 pub(crate) fn forget_groups(slots: &mut Slab<Lits>, groups: &mut Vec<GroupKey>, guard: Var) -> u64
     requires distinct { IsDistinct (keys_in groups.old.items) }
     requires fits { sum_by (group_length slots.old) groups.old.items < 18446744073709551616 }
-    ensures kept { groups.new.items ≡ filter (λ g. not (is_under guard slots.old g)) groups.old.items }
-    ensures gone { result + sum_by (group_length slots.old) groups.new.items ≡ sum_by (group_length slots.old) groups.old.items }
-    ensures others { (k : ℕ) → ((g : GroupKey) → Contains groups.old.items g → g.key ≡ k → is_under guard slots.old g ≡ true → ⊥) → get slots.new k ≡ get slots.old k }
+    ensures kept { groups.new.items
+        ≡ filter (λ g. not (is_under guard slots.old g)) groups.old.items }
+    ensures gone { result + sum_by (group_length slots.old) groups.new.items
+        ≡ sum_by (group_length slots.old) groups.old.items }
+    ensures others { (k : ℕ) → ((g : GroupKey) → Contains groups.old.items g → g.key ≡ k
+        → is_under guard slots.old g ≡ true → ⊥) → get slots.new k ≡ get slots.old k }
 {
     let mut kept = 0;
     let mut gone = 0;

@@ -19,8 +19,9 @@ use slab::Slab;
 use std::alloc::{AllocError, Global};
 use std::marker::Model;
 
-/// A problem with its guards, and the learnt clauses, each clause under a key. Contracts see the lists of plain clauses, of groups of guards with a
-/// clause, and of learnt clauses, the oldest first, each with its key.
+/// A problem with its guards, and the learnt clauses, each clause under a key. Contracts see the
+/// lists of plain clauses, of groups of guards with a clause, and of learnt clauses, the oldest
+/// first, each with its key.
 #[derive(Drop)]
 pub struct Store {
     alloc: Global,
@@ -41,15 +42,24 @@ impl Model for Store {
 
     ghost Value = { StoreView };
 
-    ghost view = { λ s. held_of (length s.kinds.items) s.slots s.plain.items s.groups.items s.learnt.items s.active.items s.freed.items };
+    ghost view = { λ s. held_of (length s.kinds.items) s.slots s.plain.items s.groups.items
+        s.learnt.items s.active.items s.freed.items };
 
-    ghost invariant = { λ s. IsCounted s.kinds.items s.slots s.plain.items s.groups.items s.learnt.items s.active.items s.freed.items (vec_capacity s.freed) s.lits };
+    ghost invariant = { λ s. IsCounted s.kinds.items s.slots s.plain.items s.groups.items
+        s.learnt.items s.active.items s.freed.items (vec_capacity s.freed) s.lits };
 }
 
 impl Store {
     /// A store with no variable and no clause.
     pub fn new(alloc: Global) -> Store
-        ensures { result ≡ record { vars = 0; plain = []; groups = []; active = []; freed = []; learnt = [] } }
+        ensures { result ≡ record {
+          vars = 0;
+          plain = [];
+          groups = [];
+          active = [];
+          freed = [];
+          learnt = [];
+        } }
     {
         Store {
             alloc,
@@ -64,7 +74,8 @@ impl Store {
         }
     }
 
-    /// Makes the count of variables at least `n`; the new ones are variables of the problem. Unchanged after an error.
+    /// Makes the count of variables at least `n`; the new ones are variables of the problem.
+    /// Unchanged after an error.
     pub fn grow(&mut self, n: u32) -> Result<(), AllocError>
         requires { n ≤ max_var }
         ensures ok { OnOk result (self.new ≡ record self.old { vars = max self.old.vars n }) }
@@ -77,7 +88,8 @@ impl Store {
         Ok(())
     }
 
-    /// Adds a plain clause of variables of the problem, and picks its key. Unchanged after an error.
+    /// Adds a plain clause of variables of the problem, and picks its key. Unchanged after an
+    /// error.
     pub fn add(&mut self, c: &[Lit]) -> Result<Key, AllocError>
         requires { IsPlain (problem_of self.old) c.now }
         ensures ok { IfOk result (λ key. self.new ≡ with_plain key c.now self.old) }
@@ -93,8 +105,9 @@ impl Store {
         Ok(key)
     }
 
-    /// Adds a clause of variables of the problem under active guards, one at least, and picks its key. It is stored with the guards' negative
-    /// literals behind it, in order; one that is named twice stands twice. Unchanged after an error.
+    /// Adds a clause of variables of the problem under active guards, one at least, and picks its
+    /// key. It is stored with the guards' negative literals behind it, in order; one that is named
+    /// twice stands twice. Unchanged after an error.
     pub fn add_under(&mut self, guards: &[Var], c: &[Lit]) -> Result<Key, AllocError>
         requires some { 0 < length guards.now }
         requires guards { All (Contains self.old.active) guards.now }
@@ -126,7 +139,8 @@ impl Store {
         Ok(key)
     }
 
-    /// Gives the guard that was freed last, else the next variable, and makes it active. It makes the room in which the guard is freed later.
+    /// Gives the guard that was freed last, else the next variable, and makes it active. It makes
+    /// the room in which the guard is freed later.
     /// `Limit` comes exactly where no guard is freed and the count of variables is `MAX_VAR`.
     pub fn new_guard(&mut self) -> NewGuard
         ensures gives { GivesGuard self.old result self.new }
@@ -145,8 +159,9 @@ impl Store {
         }
     }
 
-    /// Frees an active guard: the groups that name it go, each learnt clause with its variable goes, all else stays in order. Takes no memory, and
-    /// time linear in the guards of groups and in what was learnt.
+    /// Frees an active guard: the groups that name it go, each learnt clause with its variable
+    /// goes, all else stays in order. Takes no memory, and time linear in the guards of groups and
+    /// in what was learnt.
     pub fn remove_guard(&mut self, guard: Var)
         requires { Contains self.old.active guard }
         ensures after { self.new ≡ without_guard_of guard self.old }
@@ -159,7 +174,8 @@ impl Store {
         self.freed.push_reserved(guard);
     }
 
-    /// Takes the older half of the learnt clauses away, rounded down. Takes no memory, and time linear in their number.
+    /// Takes the older half of the learnt clauses away, rounded down. Takes no memory, and time
+    /// linear in their number.
     pub fn trim(&mut self)
         ensures after { self.new ≡ trimmed self.old }
         ensures keeps { Keeps self.old self.new }
@@ -250,7 +266,8 @@ impl Store {
     pub fn is_whole(&self)
         ensures whole { IsWhole self.now }
         ensures keys { IsDistinct (keys_of self.now) }
-        ensures few { length self.now.plain + length self.now.groups + length self.now.learnt < 18446744073709551616 }
+        ensures few { length self.now.plain + length self.now.groups + length self.now.learnt
+            < 18446744073709551616 }
     {
         let _ = room_of(&self.slots);
     }
@@ -262,8 +279,8 @@ impl Store {
         self.plain.len() as u64 + self.groups.len() as u64
     }
 
-    /// How many literals the plain clauses and the groups have as given: those of the clauses, and one for each guard of a group after the first. In
-    /// constant time.
+    /// How many literals the plain clauses and the groups have as given: those of the clauses, and
+    /// one for each guard of a group after the first. In constant time.
     pub fn lits(&self) -> u64
         ensures { result ≡ lit_count (problem_of self.now) }
     {
@@ -277,7 +294,8 @@ impl Store {
         self.learnt.len() as u64
     }
 
-    /// The learnt clause at a place, from 1, the oldest first. None exactly where none stands there. In constant time.
+    /// The learnt clause at a place, from 1, the oldest first. None exactly where none stands
+    /// there. In constant time.
     pub fn known_at(&self, i: u64) -> Option<&[Lit]>
         ensures { option_copied result ≡ at_place (known_of self.now) i }
     {
@@ -291,8 +309,8 @@ impl Store {
         Some(self.clause(self.learnt[place]))
     }
 
-    /// The key of the clause at a place, from 1, of the plain clauses, then the groups, then the learnt clauses. None exactly where none stands there.
-    /// In constant time.
+    /// The key of the clause at a place, from 1, of the plain clauses, then the groups, then the
+    /// learnt clauses. None exactly where none stands there. In constant time.
     pub fn key_at(&self, i: u64) -> Option<Key>
         ensures { result ≡ at_place (keys_of self.now) i }
     {
