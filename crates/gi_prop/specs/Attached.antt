@@ -1,5 +1,5 @@
--- What contracts see of a propagator: which keys are attached, what their clauses watch, with which stores and trails it goes, and what
--- propagation does.
+-- What contracts see of a propagator: which keys are attached, what their clauses watch, with which
+-- stores and trails it goes, and what propagation does.
 use Rattle.std.specs.Prelude.{◌≡◌, ◌≢◌, ℕ, ◌+◌, ◌<◌, ◌≤◌, ◌⊎◌, Option, Some, None, List, [], ◌++◌, length, take, slice_index, slice_index_or, Contains}
 use Rattle.gi_lit.specs.Literals.{opposite, IsLiteral}
 use Rattle.gi_lit.specs.Closure.{Forces, IsSettled, IsFalsified}
@@ -23,7 +23,8 @@ pub record HasClause (s : StoreView) (n key : ℕ) : Type 0 where
   pub held : Holds s key clause
   pub within : IsWithin n clause
 
--- the propagator goes with the store and the trail: each attached key has a clause, of variables of the trail, and the clause is watched
+-- the propagator goes with the store and the trail: each attached key has a clause, of variables of
+-- the trail, and the clause is watched
 unfoldable pub Goes : Attached → StoreView → TrailView → Type 0
 Goes p s t = (key : ℕ) → IsAttached p key → IsKeyed p.first p.second s t t.head t.head key
 
@@ -59,10 +60,14 @@ pub record AreOfClause (s : StoreView) (key a b : ℕ) : Type 0 where
   pub held : Holds s key clause
   pub pair : IsPair clause a b
 
--- each attached clause with two different literals that aren't false has two watches, and a clause with a false watch has a true literal
+-- each attached clause with two different literals that aren't false has two watches, and a clause
+-- with a false watch has a true literal
 pub record AreWatched (p : Attached) (s : StoreView) (lits : List ℕ) : Type 0 where
-  pub two : (key : ℕ) (clause : List ℕ) → IsAttached p key → Holds s key clause → HasTwoLeft lits clause → HasWatches p key
-  pub true : (key a b : ℕ) (clause : List ℕ) → IsAttached p key → Holds s key clause → Watches p key a b → Contains lits (opposite a) ⊎ Contains lits (opposite b) → (l : ℕ) × Contains clause l × Contains lits l
+  pub two : (key : ℕ) (clause : List ℕ) → IsAttached p key → Holds s key clause
+      → HasTwoLeft lits clause → HasWatches p key
+  pub true : (key a b : ℕ) (clause : List ℕ) → IsAttached p key → Holds s key clause
+      → Watches p key a b → Contains lits (opposite a) ⊎ Contains lits (opposite b)
+      → (l : ℕ) × Contains clause l × Contains lits l
 
 -- no list and no node
 abbrev pub no_lists : Lists
@@ -89,7 +94,8 @@ pub record Detaches (key : ℕ) (old new : Attached) : Type 0 where
   pub kept : (k : ℕ) → k ≢ key → IsAttached old k → IsAttached new k
   pub others : (k : ℕ) → IsAttached new k → IsAttached old k
 
--- the literal at a place was forced: its reason is an attached key, whose clause has it, and has its other literals false before it
+-- the literal at a place was forced: its reason is an attached key, whose clause has it, and has
+-- its other literals false before it
 pub record IsForcedAt (p : Attached) (s : StoreView) (t : TrailView) (place : ℕ) : Type 0 where
   pub key : ℕ
   pub reason : slice_index_or t.reasons place None ≡ Some key
@@ -98,7 +104,8 @@ pub record IsForcedAt (p : Attached) (s : StoreView) (t : TrailView) (place : �
   pub held : Holds s key clause
   pub forces : Forces clause (slice_index t.lits place) (take place t.lits)
 
--- the trail has forced literals more behind, and else is as it was, but for how much of it was looked at
+-- the trail has forced literals more behind, and else is as it was, but for how much of it was
+-- looked at
 pub record AddsForced (p : Attached) (s : StoreView) (old new : TrailView) : Type 0 where
   pub vars : new.vars ≡ old.vars
   pub level_starts : new.level_starts ≡ old.level_starts
@@ -111,7 +118,8 @@ pub record AddsForced (p : Attached) (s : StoreView) (old new : TrailView) : Typ
 
 -- each attached clause is settled: it forces nothing more, and isn't false
 pub record AreSettled (p : Attached) (s : StoreView) (lits : List ℕ) : Type 0 where
-  pub each : (key : ℕ) (clause : List ℕ) → IsAttached p key → Holds s key clause → IsSettled lits clause
+  pub each : (key : ℕ) (clause : List ℕ) → IsAttached p key → Holds s key clause
+      → IsSettled lits clause
 
 -- the key is attached, and all literals of its clause are false
 pub record IsConflict (p : Attached) (s : StoreView) (lits : List ℕ) (key : ℕ) : Type 0 where

@@ -21,8 +21,10 @@ AreOthersFalse lits clause l = All (λ m. (m ≡ l) ⊎ Contains lits (opposite 
 
 -- which different literals of the clause aren't false
 abbrev pub IsLeft : List ℕ → List ℕ → Left → Type 0
-IsLeft lits clause (Two a b) = IsPair clause a b × ¬ Contains lits (opposite a) × ¬ Contains lits (opposite b)
-IsLeft lits clause (One l) = Contains clause l × ¬ Contains lits (opposite l) × AreOthersFalse lits clause l
+IsLeft lits clause (Two a b) = IsPair clause a b × ¬ Contains lits (opposite a)
+    × ¬ Contains lits (opposite b)
+IsLeft lits clause (One l) = Contains clause l × ¬ Contains lits (opposite l)
+    × AreOthersFalse lits clause l
 IsLeft lits clause Nothing = IsFalsified lits clause
 
 -- a literal beside this one that isn't false, if there is one
@@ -37,15 +39,23 @@ IsLook lits clause other (Move m) = Contains clause m × (m ≢ other) × ¬ Con
 IsLook lits clause other Force = Forces clause other lits × HasValue lits other None
 IsLook lits clause other Conflict = IsFalsified lits clause
 
--- what became of the watch of a clause that is false: it stays and is guarded further, or is another literal now, or all of the clause is false
-abbrev pub IsStep : List (Option ℕ) → Lists → Lists → Lists → StoreView → TrailView → ℕ → ℕ → ℕ → Visited → Type 0
-IsStep slots old new theirs s t seen falsified key Kept = KeepsLists old new key × IsKeyed new theirs s t (t.head + 1) seen key
-IsStep slots old new theirs s t seen falsified key Moved = (m : ℕ) × (2 ≤ m) × (m ≢ falsified) × (m + 1 < length old.lists) × IsMoved old new (m + 1) key × IsKeyed new theirs s t (t.head + 1) seen key
-IsStep slots old new theirs s t seen falsified key (Failed k) = (new ≡ old) × IsConflict (keys_alone slots) s t.lits k
+-- what became of the watch of a clause that is false: it stays and is guarded further, or is
+-- another literal now, or all of the clause is false
+abbrev pub IsStep : List (Option ℕ) → Lists → Lists → Lists → StoreView → TrailView → ℕ → ℕ → ℕ
+    → Visited → Type 0
+IsStep slots old new theirs s t seen falsified key Kept = KeepsLists old new key
+    × IsKeyed new theirs s t (t.head + 1) seen key
+IsStep slots old new theirs s t seen falsified key Moved = (m : ℕ) × (2 ≤ m) × (m ≢ falsified)
+    × (m + 1 < length old.lists) × IsMoved old new (m + 1) key
+    × IsKeyed new theirs s t (t.head + 1) seen key
+IsStep slots old new theirs s t seen falsified key (Failed k) = (new ≡ old)
+    × IsConflict (keys_alone slots) s t.lits k
 
--- what became of a clause in a list that is no literal's: it stays, with one true literal and the others false; or it watches two; or all of it is
--- false
-abbrev pub IsPromoted : List (Option ℕ) → Lists → Lists → StoreView → TrailView → ℕ → Visited → Type 0
+-- what became of a clause in a list that is no literal's: it stays, with one true literal and the
+-- others false; or it watches two; or all of it is false
+abbrev pub IsPromoted : List (Option ℕ) → Lists → Lists → StoreView → TrailView → ℕ → Visited
+    → Type 0
 IsPromoted slots old new s t key Kept = (new ≡ old) × IsPassed s t.lits key
-IsPromoted slots old new s t key Moved = (m : ℕ) × (2 ≤ m) × (m + 1 < length old.lists) × IsMoved old new (m + 1) key
+IsPromoted slots old new s t key Moved = (m : ℕ) × (2 ≤ m) × (m + 1 < length old.lists)
+    × IsMoved old new (m + 1) key
 IsPromoted slots old new s t key (Failed k) = (new ≡ old) × IsConflict (keys_alone slots) s t.lits k

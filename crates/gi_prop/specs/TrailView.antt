@@ -1,4 +1,5 @@
--- What contracts see of a trail: its literals in the order in which they became true, and where its levels begin.
+-- What contracts see of a trail: its literals in the order in which they became true, and where its
+-- levels begin.
 use Rattle.std.specs.Prelude.{◌≡◌, ◌≢◌, ℕ, ◌/◌, ◌<◌, ◌≤◌, nat_lt, if◌then◌else◌, Bool, true, false, Option, Some, None, List, [], ◌∷◌, ◌++◌, length, take, slice_index, All, Contains}
 use Rattle.gi_lit.specs.Literals.{opposite}
 use Rattle.gi_lit.specs.Closure.{IsConsistent}
@@ -6,7 +7,8 @@ use Rattle.gi_lit.specs.Closure.{IsConsistent}
 pub record TrailView : Type 0 where
   pub vars : ℕ  -- the variables are 1 to vars
   pub lits : List ℕ  -- the literals that are true, the oldest first
-  pub reasons : List (Option ℕ)  -- beside each literal the key of the clause that forced it, none for a decision
+  -- beside each literal the key of the clause that forced it, none for a decision
+  pub reasons : List (Option ℕ)
   pub level_starts : List ℕ  -- how long the trail was when each level began, from level 1
   pub head : ℕ  -- how much of the trail propagation has looked at
   pub qheads : List ℕ  -- how much it had looked at when each level began
@@ -42,11 +44,21 @@ with_lit l why t = record t { lits = t.lits ++ l ∷ []; reasons = t.reasons ++ 
 
 -- with a level more
 abbrev pub with_level : TrailView → TrailView
-with_level t = record t { level_starts = t.level_starts ++ length t.lits ∷ []; qheads = t.qheads ++ t.head ∷ [] }
+with_level t = record t {
+  level_starts = t.level_starts ++ length t.lits ∷ [];
+  qheads = t.qheads ++ t.head ∷ [];
+}
 
 -- the part that was there before a level above this one began
 abbrev pub cut_at : ℕ → TrailView → TrailView
-cut_at level t = let n = slice_index t.level_starts level in record t { lits = take n t.lits; reasons = take n t.reasons; level_starts = take level t.level_starts; head = slice_index t.qheads level; qheads = take level t.qheads }
+cut_at level t = let n = slice_index t.level_starts level
+    in record t {
+      lits = take n t.lits;
+      reasons = take n t.reasons;
+      level_starts = take level t.level_starts;
+      head = slice_index t.qheads level;
+      qheads = take level t.qheads;
+    }
 
 -- the same, and all of it where the level is the present one
 abbrev pub cancelled : ℕ → TrailView → TrailView
@@ -56,14 +68,17 @@ cancelled level t = if nat_lt level (length t.level_starts) then cut_at level t 
 abbrev pub AreWithin : ℕ → List ℕ → Type 0
 AreWithin n lits = All (λ l. (1 ≤ l / 2) × (l / 2 ≤ n)) lits
 
--- levels begin one behind the other within the trail, and at each beginning no more had been looked at than was there, nor than is looked at now
+-- levels begin one behind the other within the trail, and at each beginning no more had been looked
+-- at than was there, nor than is looked at now
 pub record AreLevels (lits level_starts : List ℕ) (head : ℕ) (qheads : List ℕ) : Type 0 where
   pub aligned : length qheads ≡ length level_starts
   pub limit : length level_starts ≤ 4294967295
   pub within : (j : ℕ) → j < length level_starts → slice_index level_starts j ≤ length lits
-  pub ordered : (i j : ℕ) → i ≤ j → j < length level_starts → slice_index level_starts i ≤ slice_index level_starts j
+  pub ordered : (i j : ℕ) → i ≤ j → j < length level_starts
+      → slice_index level_starts i ≤ slice_index level_starts j
   pub seen : (j : ℕ) → j < length level_starts → slice_index qheads j ≤ slice_index level_starts j
-  pub rising : (i j : ℕ) → i ≤ j → j < length level_starts → slice_index qheads i ≤ slice_index qheads j
+  pub rising : (i j : ℕ) → i ≤ j → j < length level_starts
+      → slice_index qheads i ≤ slice_index qheads j
   pub looked : (j : ℕ) → j < length level_starts → slice_index qheads j ≤ head
   pub high : head ≤ length lits
 
@@ -72,7 +87,9 @@ pub record IsTrail (t : TrailView) : Type 0 where
   pub few : t.vars ≤ 4294967295
   pub within : AreWithin t.vars t.lits
   pub room : length t.lits ≤ t.vars
-  pub apart : (i j : ℕ) → i < length t.lits → j < length t.lits → slice_index t.lits i / 2 ≡ slice_index t.lits j / 2 → i ≡ j  -- no variable stands twice
+  -- no variable stands twice
+  pub apart : (i j : ℕ) → i < length t.lits → j < length t.lits
+      → slice_index t.lits i / 2 ≡ slice_index t.lits j / 2 → i ≡ j
   pub consistent : IsConsistent t.lits
   pub reasons : length t.reasons ≡ length t.lits
   pub levels : AreLevels t.lits t.level_starts t.head t.qheads

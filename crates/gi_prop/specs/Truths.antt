@@ -19,4 +19,5 @@ pub code_of-truth_of : (c : ℕ) → c ≤ 2 → code_of (truth_of c) ≡ c
 code_of-truth_of zero h = λ i. zero
 code_of-truth_of (suc zero) h = λ i. suc zero
 code_of-truth_of (suc (suc zero)) h = λ i. suc (suc zero)
-code_of-truth_of (suc (suc (suc k))) h = absurd (not-suc-le-zero (le_of_suc-le-suc (le_of_suc-le-suc h)))
+code_of-truth_of (suc (suc (suc k))) h =
+    absurd (not-suc-le-zero (le_of_suc-le-suc (le_of_suc-le-suc h)))

@@ -13,7 +13,8 @@ pub record AreNumbered (slots : List (Option ℕ)) : Type 0 where
 
 -- the nodes in the chains are those of the attached keys, each in one list
 pub record AreLinked (slots : List (Option ℕ)) (chains : Lists) : Type 0 where
-  pub linked : (key : ℕ) → slice_index_or slots key None ≡ Some key → (list : ℕ) × IsIn chains list key
+  pub linked : (key : ℕ) → slice_index_or slots key None ≡ Some key
+      → (list : ℕ) × IsIn chains list key
   pub attached : (key list : ℕ) → IsIn chains list key → slice_index_or slots key None ≡ Some key
   pub apart : IsApart chains
 
@@ -24,10 +25,12 @@ pub record AreKept (slots : List (Option ℕ)) (first second : Lists) : Type 0 w
   pub second_linked : AreLinked slots second
 
 -- what propagation keeps, where the watches of either side are guarded in so much of the trail
-pub record IsWatched (slots : List (Option ℕ)) (ours theirs : Lists) (s : StoreView) (t : TrailView) (our_head their_head : ℕ) : Type 0 where
+pub record IsWatched (slots : List (Option ℕ)) (ours theirs : Lists) (s : StoreView) (t : TrailView)
+    (our_head their_head : ℕ) : Type 0 where
   pub kept : AreKept slots ours theirs
   pub trail : IsTrail t
-  pub keyed : (key : ℕ) → slice_index_or slots key None ≡ Some key → IsKeyed ours theirs s t our_head their_head key
+  pub keyed : (key : ℕ) → slice_index_or slots key None ≡ Some key
+      → IsKeyed ours theirs s t our_head their_head key
 
 -- the literal at the head of the trail is true, so this one is false
 pub record IsLooking (t : TrailView) (falsified : ℕ) : Type 0 where
@@ -46,11 +49,14 @@ pub record LeavesAside (old new : Lists) : Type 0 where
 
 -- the node at place i of a list is the first of another now
 abbrev pub moved : List (List ℕ) → ℕ → ℕ → ℕ → ℕ → List (List ℕ)
-moved lists from i to node = let cut = slice_set lists from (remove (items_at lists from) i) in slice_set cut to (node ∷ items_at cut to)
+moved lists from i to node = let cut =
+    slice_set lists from (remove (items_at lists from) i) in slice_set cut to
+    (node ∷ items_at cut to)
 
 -- the node, which stood in a list, is the first of another now; the words of the others stay
 pub record IsMoved (old new : Lists) (to node : ℕ) : Type 0 where
-  pub each : (from i : ℕ) → StandsAt old.lists from i node → new.lists ≡ moved old.lists from i to node
+  pub each : (from i : ℕ) → StandsAt old.lists from i node
+      → new.lists ≡ moved old.lists from i to node
   pub words : (k : ℕ) → k ≢ node → slice_index new.words k ≡ slice_index old.words k
   pub apart : IsApart new
 
@@ -79,8 +85,11 @@ pub record ArePassed (chains : Lists) (s : StoreView) (lits : List ℕ) (list : 
 
 -- the lists in which the nodes of a clause are to stand
 pub data AreHome (lits clause : List ℕ) (first second : ℕ) : Type 0 where
-  two : (a b : ℕ) → first ≡ a + 1 → second ≡ b + 1 → IsPair clause a b → ¬ Contains lits (opposite a) → ¬ Contains lits (opposite b) → AreHome lits clause first second
-  rests : first ≡ second → IsAside clause first → ¬ HasTwoLeft lits clause → AreHome lits clause first second
+  two : (a b : ℕ) → first ≡ a + 1 → second ≡ b + 1 → IsPair clause a b
+      → ¬ Contains lits (opposite a) → ¬ Contains lits (opposite b)
+      → AreHome lits clause first second
+  rests : first ≡ second → IsAside clause first → ¬ HasTwoLeft lits clause
+      → AreHome lits clause first second
 
 -- there may be more nodes and lists, the lists empty, and each node is where it was, with its word
 pub record HasMore (old new : Lists) : Type 0 where

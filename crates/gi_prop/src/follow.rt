@@ -39,8 +39,10 @@ pub(crate) fn move_to(chains: &mut Chains, list: u32, node: u64, word: u32)
 /// Whether the word of a node is a literal that is true: the clause needs no look then.
 fn is_blocked(chains: &Chains, trail: &Trail, node: u64) -> bool
     requires node { node < chains.now.nodes }
-    requires within { let word = slice_index chains.now.words node in 2 ≤ word → word / 2 ≤ trail.now.vars }
-    ensures { let word = slice_index chains.now.words node in IsTrue result → (2 ≤ word) × Contains trail.now.lits word }
+    requires within { let word = slice_index chains.now.words node in 2 ≤ word
+        → word / 2 ≤ trail.now.vars }
+    ensures { let word = slice_index chains.now.words node in IsTrue result
+        → (2 ≤ word) × Contains trail.now.lits word }
 {
     match Lit::from_code(chains.word(node)) {
         None => false,
@@ -60,13 +62,16 @@ fn settle(
     node: u64,
 ) -> Visited
     ghost seen: { ℕ }
-    requires watched { IsWatched slots.now ours.old theirs.now store.now trail.old trail.old.head seen }
+    requires watched { IsWatched slots.now ours.old theirs.now store.now trail.old trail.old.head
+        seen }
     requires looking { IsLooking trail.old falsified }
     requires watch { IsIn ours.old (falsified + 1) node }
     requires high { seen ≤ length trail.old.lits }
-    ensures watched { IsWatched slots.now ours.new theirs.now store.now trail.new trail.new.head seen }
+    ensures watched { IsWatched slots.now ours.new theirs.now store.now trail.new trail.new.head
+        seen }
     ensures added { IsAdded slots.now store.now trail.old trail.new }
-    ensures step { IsStep slots.now ours.old ours.new theirs.now store.now trail.new seen falsified node result }
+    ensures step { IsStep slots.now ours.old ours.new theirs.now store.now trail.new seen falsified
+        node result }
 {
     if is_blocked(ours, trail, node) {
         return Visited::Kept;
@@ -106,13 +111,16 @@ fn visit(
     falsified: Lit,
 ) -> Option<Key>
     ghost seen: { ℕ }
-    requires watched { IsWatched slots.now ours.old theirs.now store.now trail.old trail.old.head seen }
+    requires watched { IsWatched slots.now ours.old theirs.now store.now trail.old trail.old.head
+        seen }
     requires looking { IsLooking trail.old falsified }
     requires high { seen ≤ length trail.old.lits }
-    ensures watched { IsWatched slots.now ours.new theirs.now store.now trail.new trail.new.head seen }
+    ensures watched { IsWatched slots.now ours.new theirs.now store.now trail.new trail.new.head
+        seen }
     ensures added { IsAdded slots.now store.now trail.old trail.new }
     ensures aside { LeavesAside ours.old ours.new }
-    ensures closed { IfNone result (IsWatched slots.now ours.new theirs.now store.now trail.new (trail.new.head + 1) seen) }
+    ensures closed { IfNone result
+        (IsWatched slots.now ours.new theirs.now store.now trail.new (trail.new.head + 1) seen) }
     ensures conflict { IfSome result (IsConflict (keys_alone slots.now) store.now trail.new.lits) }
 {
     let list = list_of(falsified);
@@ -132,7 +140,8 @@ fn visit(
     None
 }
 
-/// Goes through the watches of the literal on the other side, when those of one side were gone through.
+/// Goes through the watches of the literal on the other side, when those of one side were gone
+/// through.
 fn visit_other(
     ours: &mut Chains,
     theirs: &Chains,
@@ -142,18 +151,23 @@ fn visit_other(
     trail: &mut Trail,
     falsified: Lit,
 ) -> Option<Key>
-    requires watched { IsWatched slots.now ours.old theirs.now store.now trail.old trail.old.head (trail.old.head + 1) }
+    requires watched { IsWatched slots.now ours.old theirs.now store.now trail.old trail.old.head
+        (trail.old.head + 1) }
     requires looking { IsLooking trail.old falsified }
-    ensures watched { IsWatched slots.now ours.new theirs.now store.now trail.new trail.new.head (trail.new.head + 1) }
+    ensures watched { IsWatched slots.now ours.new theirs.now store.now trail.new trail.new.head
+        (trail.new.head + 1) }
     ensures added { IsAdded slots.now store.now trail.old trail.new }
     ensures aside { LeavesAside ours.old ours.new }
-    ensures closed { IfNone result (IsWatched slots.now ours.new theirs.now store.now trail.new (trail.new.head + 1) (trail.new.head + 1)) }
+    ensures closed { IfNone result
+        (IsWatched slots.now ours.new theirs.now store.now trail.new (trail.new.head + 1)
+        (trail.new.head + 1)) }
     ensures conflict { IfSome result (IsConflict (keys_alone slots.now) store.now trail.new.lits) }
 {
     visit(ours, theirs, slots, starts, store, trail, falsified)
 }
 
-/// Follows the trail: looks at the clauses that watch what became false, until all of the trail was looked at or a clause is false.
+/// Follows the trail: looks at the clauses that watch what became false, until all of the trail was
+/// looked at or a clause is false.
 pub(crate) fn follow(
     first: &mut Chains,
     second: &mut Chains,
@@ -162,8 +176,10 @@ pub(crate) fn follow(
     store: &Store,
     trail: &mut Trail,
 ) -> Option<Key>
-    requires { IsWatched slots.now first.old second.old store.now trail.old trail.old.head trail.old.head }
-    ensures watched { IsWatched slots.now first.new second.new store.now trail.new trail.new.head trail.new.head }
+    requires { IsWatched slots.now first.old second.old store.now trail.old trail.old.head
+        trail.old.head }
+    ensures watched { IsWatched slots.now first.new second.new store.now trail.new trail.new.head
+        trail.new.head }
     ensures adds { AddsForced (keys_alone slots.now) store.now trail.old trail.new }
     ensures first_aside { LeavesAside first.old first.new }
     ensures second_aside { LeavesAside second.old second.new }

@@ -71,7 +71,8 @@ pub(crate) fn watched_lit(list: u32) -> Option<Lit>
 /// The literal in whose list the node stands. None exactly where it stands in no literal's list.
 pub(crate) fn watch_in(chains: &Chains, node: u64) -> Option<Lit>
     requires { node < chains.now.nodes }
-    ensures { MatchOption result ((a : ℕ) → IsLiteral a → ¬ IsIn chains.now (a + 1) node) (λ a. IsLiteral a × IsIn chains.now (a + 1) node) }
+    ensures { MatchOption result ((a : ℕ) → IsLiteral a → ¬ IsIn chains.now (a + 1) node)
+        (λ a. IsLiteral a × IsIn chains.now (a + 1) node) }
 {
     match chains.list_of(node) {
         None => None,
@@ -115,7 +116,8 @@ struct Found {
 /// A literal of a part of a clause beside this one that isn't false.
 fn spare_in(clause: &[Lit], other: Lit, trail: &Trail) -> Option<Found>
     requires { IsWithin trail.now.vars clause.now }
-    ensures { MatchOption result (AreOthersFalse trail.now.lits clause.now other) (λ f. IsSpare trail.now.lits clause.now other (Some f.lit)) }
+    ensures { MatchOption result (AreOthersFalse trail.now.lits clause.now other)
+        (λ f. IsSpare trail.now.lits clause.now other (Some f.lit)) }
 {
     let mut at = 0u32;
     for l in clause {
@@ -132,7 +134,8 @@ fn spare_in(clause: &[Lit], other: Lit, trail: &Trail) -> Option<Found>
 fn spare_behind(clause: &[Lit], place: u32, other: Lit, trail: &Trail) -> Option<Found>
     requires within { IsWithin trail.now.vars clause.now }
     requires place { place ≤ length clause.now }
-    ensures { MatchOption result (AreOthersFalse trail.now.lits (drop place clause.now) other) (λ f. IsSpare trail.now.lits clause.now other (Some f.lit)) }
+    ensures { MatchOption result (AreOthersFalse trail.now.lits (drop place clause.now) other)
+        (λ f. IsSpare trail.now.lits clause.now other (Some f.lit)) }
 {
     spare_in(behind(clause, place), other, trail)
 }
@@ -141,7 +144,8 @@ fn spare_behind(clause: &[Lit], place: u32, other: Lit, trail: &Trail) -> Option
 fn spare_before(clause: &[Lit], place: u32, other: Lit, trail: &Trail) -> Option<Found>
     requires within { IsWithin trail.now.vars clause.now }
     requires place { place ≤ length clause.now }
-    ensures { MatchOption result (AreOthersFalse trail.now.lits (take place clause.now) other) (λ f. IsSpare trail.now.lits clause.now other (Some f.lit)) }
+    ensures { MatchOption result (AreOthersFalse trail.now.lits (take place clause.now) other)
+        (λ f. IsSpare trail.now.lits clause.now other (Some f.lit)) }
 {
     spare_in(up_to(clause, place), other, trail)
 }
@@ -162,7 +166,8 @@ fn up_to(clause: &[Lit], place: u32) -> &[Lit]
     &clause[..place as usize]
 }
 
-/// A literal of the clause beside this one that isn't false. The look begins where the last one ended, and goes on at the front.
+/// A literal of the clause beside this one that isn't false. The look begins where the last one
+/// ended, and goes on at the front.
 fn replacement(
     clause: &[Lit],
     other: Lit,
@@ -244,7 +249,8 @@ fn unwatched_list(clause: &[Lit]) -> u32
     SINGLE
 }
 
-/// The lists in which the two nodes of the clause are to stand: those of two different literals that aren't false, if there are two.
+/// The lists in which the two nodes of the clause are to stand: those of two different literals
+/// that aren't false, if there are two.
 pub(crate) fn initial_watches(clause: &[Lit], trail: &Trail) -> (u32, u32)
     requires { IsWithin trail.now.vars clause.now }
     ensures { AreHome trail.now.lits clause.now result.0 result.1 }

@@ -15,12 +15,15 @@ use gi_store::{Key, Store};
 use std::alloc::{AllocError, Global};
 use std::marker::Model;
 
-/// A propagator: the keys of the clauses that take part in unit propagation, with two watched literals for each clause. Contracts see which keys
-/// are attached, what their clauses watch, and with which stores and trails it goes.
+/// A propagator: the keys of the clauses that take part in unit propagation, with two watched
+/// literals for each clause. Contracts see which keys are attached, what their clauses watch, and
+/// with which stores and trails it goes.
 ///
-/// Each attached clause of two or more different literals watches two of them, or waits until two of them aren't false, or one is true and another
-/// became false since the last level began. A literal that becomes false has the clauses looked at that watch it, and those alone; beside a watch
-/// stands its blocker, another literal of the clause: where that is true the clause isn't read.
+/// Each attached clause of two or more different literals watches two of them, or waits until two
+/// of them aren't false, or one is true and another became false since the last level began. A
+/// literal that becomes false has the clauses looked at that watch it, and those alone; beside a
+/// watch stands its blocker, another literal of the clause: where that is true the clause isn't
+/// read.
 #[derive(Drop)]
 pub struct Prop {
     slots: Vec<Option<Key>>,
@@ -59,12 +62,16 @@ impl Prop {
         requires goes { Goes self.old store.now trail.now }
         requires live { IsLive store.now key }
         requires free { ¬ IsAttached self.old key }
-        requires within { (clause : List ℕ) → Holds store.now key clause → IsWithin trail.now.vars clause }
+        requires within { (clause : List ℕ) → Holds store.now key clause
+            → IsWithin trail.now.vars clause }
         ensures attached { OnOk result (Attaches key self.old self.new) }
         ensures goes { Goes self.new store.now trail.now }
         ensures err { OnErr result (HasSameKeys self.old self.new) }
-        ensures err_goes { OnErr result ((s : StoreView) (t : TrailView) → Goes self.old s t → Goes self.new s t) }
-        ensures watched { OnOk result ((clause : List ℕ) → Holds store.now key clause → HasWatches self.new key ↔ HasTwoLeft trail.now.lits clause) }
+        ensures err_goes { OnErr result
+            ((s : StoreView) (t : TrailView) → Goes self.old s t → Goes self.new s t) }
+        ensures watched { OnOk result
+            ((clause : List ℕ) → Holds store.now key clause → HasWatches self.new key
+            ↔ HasTwoLeft trail.now.lits clause) }
         ensures others { (k : ℕ) → k ≢ key → KeepsWatches self.old self.new k }
         ensures err_watched { OnErr result (KeepsWatches self.old self.new key) }
     {
@@ -102,8 +109,9 @@ impl Prop {
         self.second.unlink(node);
     }
 
-    /// Adds to the trail what the attached clauses force, until each of them is settled (None), or all literals of one are false (its key). A literal
-    /// that a clause repeats counts once. Takes no memory.
+    /// Adds to the trail what the attached clauses force, until each of them is settled (None), or
+    /// all literals of one are false (its key). A literal that a clause repeats counts once. Takes
+    /// no memory.
     pub fn propagate(&mut self, store: &Store, trail: &mut Trail) -> Option<Key>
         requires { Goes self.old store.now trail.old }
         ensures keys { HasSameKeys self.old self.new }
@@ -113,9 +121,11 @@ impl Prop {
         ensures looked { IfNone result (trail.new.head ≡ length trail.new.lits) }
         ensures conflict { IfSome result (IsConflict self.new store.now trail.new.lits) }
         ensures watched { IfNone result (AreWatched self.new store.now trail.new.lits) }
-        ensures stays { (k : ℕ) → IsAttached self.old k → HasWatches self.old k → HasWatches self.new k }
+        ensures stays { (k : ℕ) → IsAttached self.old k → HasWatches self.old k
+            → HasWatches self.new k }
     {
-        // A trail and a store say what is true of each: how far a trail was looked at, and that no key has two clauses.
+        // A trail and a store say what is true of each: how far a trail was looked at, and that no
+        // key has two clauses.
         let _ = trail.level();
         let _ = store.vars();
         let slots = self.slots.as_slice();
@@ -132,12 +142,16 @@ impl Prop {
         )
     }
 
-    /// The two literals that the clause of the key watches, different ones of it. None exactly where it watches none: after an `attach` exactly where
-    /// fewer than two different literals of it weren't false; after a `propagate` without a key only where fewer than two aren't. In constant time.
+    /// The two literals that the clause of the key watches, different ones of it. None exactly
+    /// where it watches none: after an `attach` exactly where fewer than two different literals of
+    /// it weren't false; after a `propagate` without a key only where fewer than two aren't. In
+    /// constant time.
     pub fn watches(&self, key: Key) -> Option<(Lit, Lit)>
         requires { IsAttached self.now key }
-        ensures value { MatchOption result (¬ HasWatches self.now key) (λ w. Watches self.now key w.0 w.1) }
-        ensures literals { (s : StoreView) (t : TrailView) → Goes self.now s t → IfSome result (λ w. AreOfClause s key w.0 w.1) }
+        ensures value { MatchOption result (¬ HasWatches self.now key)
+            (λ w. Watches self.now key w.0 w.1) }
+        ensures literals { (s : StoreView) (t : TrailView) → Goes self.now s t
+            → IfSome result (λ w. AreOfClause s key w.0 w.1) }
     {
         let node = key.number();
         match watch_in(&self.first, node) {

@@ -7,7 +7,8 @@ use gi_chains::Chains;
 use gi_store::Key;
 use std::alloc::AllocError;
 
-/// Makes a slot and two nodes of a number for a clause of so many literals, and the lists below another. After an error there may be more nodes and lists, and as many slots.
+/// Makes a slot and two nodes of a number for a clause of so many literals, and the lists below
+/// another. After an error there may be more nodes and lists, and as many slots.
 pub(crate) fn make_room(
     slots: &mut Vec<Option<Key>>,
     first: &mut Chains,
@@ -24,7 +25,8 @@ pub(crate) fn make_room(
     ensures slots { (m : ℕ) × (slots.new.items ≡ slots.old.items ++ replicate m None) }
     ensures long { OnOk result (node < length slots.new.items) }
     ensures nodes { OnOk result ((node < first.new.nodes) × (node < second.new.nodes)) }
-    ensures lists { OnOk result ((lists ≤ length first.new.lists) × (lists ≤ length second.new.lists)) }
+    ensures lists { OnOk result
+        ((lists ≤ length first.new.lists) × (lists ≤ length second.new.lists)) }
 {
     let more = reserve_slots(slots, starts, node, len)?;
     first.grow(lists, node)?;
@@ -33,7 +35,8 @@ pub(crate) fn make_room(
     Ok(())
 }
 
-/// Makes room for the slots up to a number's, and a place in a clause of so many literals. Tells how many slots are missing.
+/// Makes room for the slots up to a number's, and a place in a clause of so many literals. Tells
+/// how many slots are missing.
 fn reserve_slots(
     slots: &mut Vec<Option<Key>>,
     starts: &mut Starts,

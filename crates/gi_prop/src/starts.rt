@@ -5,8 +5,9 @@ use std::alloc::{AllocError, Global};
 /// Clauses of up to so many literals are looked through from their first literal on.
 const SHORT: usize = 8;
 
-/// Where the last look through each long clause ended, by its node. The next one goes on from there, so that a clause whose literals become false one
-/// after the other is gone through once and not each time.
+/// Where the last look through each long clause ended, by its node. The next one goes on from
+/// there, so that a clause whose literals become false one after the other is gone through once and
+/// not each time.
 #[derive(Drop)]
 pub(crate) struct Starts {
     places: Vec<u32>,

@@ -13,8 +13,9 @@ use gi_store::Key;
 use std::alloc::{AllocError, Global};
 use std::marker::Model;
 
-/// Literals that are true, in the order in which they became so, with the levels at which they did. Contracts see the literals and their reasons
-/// by place, how long the trail was when each level began, and how much of it propagation has looked at.
+/// Literals that are true, in the order in which they became so, with the levels at which they did.
+/// Contracts see the literals and their reasons by place, how long the trail was when each level
+/// began, and how much of it propagation has looked at.
 #[derive(Drop)]
 pub struct Trail {
     lits: Vec<Lit>,
@@ -33,9 +34,17 @@ impl Model for Trail {
 
     ghost Value = { TrailView };
 
-    ghost view = { λ t. record { vars = length t.positions.items; lits = t.lits.items; reasons = t.reasons.items; level_starts = t.level_starts.items; head = t.head; qheads = t.qheads.items } };
+    ghost view = { λ t. record {
+      vars = length t.positions.items;
+      lits = t.lits.items;
+      reasons = t.reasons.items;
+      level_starts = t.level_starts.items;
+      head = t.head;
+      qheads = t.qheads.items;
+    } };
 
-    ghost invariant = { λ t. IsLaid t.positions.items t.values.items t.lits.items t.reasons.items t.level_starts.items t.head t.qheads.items (vec_capacity t.lits) (vec_capacity t.reasons) };
+    ghost invariant = { λ t. IsLaid t.positions.items t.values.items t.lits.items t.reasons.items
+        t.level_starts.items t.head t.qheads.items (vec_capacity t.lits) (vec_capacity t.reasons) };
 }
 
 impl Trail {
@@ -54,7 +63,8 @@ impl Trail {
         }
     }
 
-    /// Makes the count of variables at least `n`, with room for a literal of each. Unchanged after an error.
+    /// Makes the count of variables at least `n`, with room for a literal of each. Unchanged after
+    /// an error.
     pub fn grow(&mut self, n: u32) -> Result<(), AllocError>
         ensures ok { OnOk result (self.new ≡ record self.old { vars = max self.old.vars n }) }
         ensures goes { (p : Attached) (s : StoreView) → Goes p s self.old → Goes p s self.new }
@@ -89,7 +99,8 @@ impl Trail {
         }
     }
 
-    /// Makes an unassigned literal true, behind the others: forced by the clause of a key, or decided. Takes no memory.
+    /// Makes an unassigned literal true, behind the others: forced by the clause of a key, or
+    /// decided. Takes no memory.
     pub fn assign(&mut self, l: Lit, why: Option<Key>)
         requires within { l / 2 ≤ self.old.vars }
         requires free { HasValue self.old.lits l None }
@@ -119,7 +130,8 @@ impl Trail {
         Ok(())
     }
 
-    /// Begins a level with an unassigned literal. Where the levels are no more than the literals, there is room for one more.
+    /// Begins a level with an unassigned literal. Where the levels are no more than the literals,
+    /// there is room for one more.
     pub fn decide(&mut self, l: Lit) -> Result<(), AllocError>
         requires within { l / 2 ≤ self.old.vars }
         requires free { HasValue self.old.lits l None }
@@ -152,7 +164,8 @@ impl Trail {
         self.level_starts[level as usize] as usize
     }
 
-    /// Takes the levels above this one away, with their literals. Takes no memory, and time in the number of literals that go.
+    /// Takes the levels above this one away, with their literals. Takes no memory, and time in the
+    /// number of literals that go.
     pub fn cancel_to(&mut self, level: u32)
         requires { level ≤ length self.old.level_starts }
         ensures after { self.new ≡ cancelled level self.old }
@@ -190,7 +203,8 @@ impl Trail {
         self.lits.as_slice()
     }
 
-    /// Where the variable's literal stands in the trail, from 0. None exactly where the variable is unassigned. In constant time.
+    /// Where the variable's literal stands in the trail, from 0. None exactly where the variable is
+    /// unassigned. In constant time.
     pub fn place_of(&self, v: Var) -> Option<usize>
         requires { v ≤ self.now.vars }
         ensures { MatchOption result (IsUnassigned self.now.lits v) (StandsAt self.now.lits v) }
@@ -201,11 +215,13 @@ impl Trail {
         }
     }
 
-    /// The key of the clause that forced the variable's literal. None exactly where the variable is unassigned or was decided. In constant time.
+    /// The key of the clause that forced the variable's literal. None exactly where the variable is
+    /// unassigned or was decided. In constant time.
     pub fn reason(&self, v: Var) -> Option<Key>
         requires { v ≤ self.now.vars }
         ensures unassigned { IsUnassigned self.now.lits v → result ≡ None }
-        ensures assigned { (p : ℕ) → StandsAt self.now.lits v p → result ≡ slice_index_or self.now.reasons p None }
+        ensures assigned { (p : ℕ) → StandsAt self.now.lits v p
+            → result ≡ slice_index_or self.now.reasons p None }
     {
         match self.place_of(v) {
             None => None,
@@ -213,10 +229,12 @@ impl Trail {
         }
     }
 
-    /// The level at which the variable was assigned. None exactly where it is unassigned. Found among the levels by halves.
+    /// The level at which the variable was assigned. None exactly where it is unassigned. Found
+    /// among the levels by halves.
     pub fn level_of(&self, v: Var) -> Option<u32>
         requires { v ≤ self.now.vars }
-        ensures { MatchOption result (IsUnassigned self.now.lits v) (λ n. (p : ℕ) × StandsAt self.now.lits v p × IsLevelAt self.now.level_starts p n) }
+        ensures { MatchOption result (IsUnassigned self.now.lits v)
+            (λ n. (p : ℕ) × StandsAt self.now.lits v p × IsLevelAt self.now.level_starts p n) }
     {
         match self.place_of(v) {
             None => None,
@@ -258,7 +276,8 @@ impl Trail {
         self.qheads[self.qheads.len() - 1] as usize
     }
 
-    /// Whether a literal of the variable stands behind what had been looked at when the last level began. In constant time.
+    /// Whether a literal of the variable stands behind what had been looked at when the last level
+    /// began. In constant time.
     pub(crate) fn is_late(&self, v: Var) -> bool
         requires { v ≤ self.now.vars }
         ensures { IsTrue result → IsLate self.now v }
@@ -269,9 +288,11 @@ impl Trail {
         }
     }
 
-    /// The first literal that propagation hasn't looked at. None exactly where it has looked at all.
+    /// The first literal that propagation hasn't looked at. None exactly where it has looked at
+    /// all.
     pub(crate) fn unseen(&self) -> Option<Lit>
-        ensures value { MatchOption result (length self.now.lits ≤ self.now.head) (IsUnseen self.now) }
+        ensures value { MatchOption result (length self.now.lits ≤ self.now.head)
+            (IsUnseen self.now) }
         ensures trail { IsTrail self.now }
     {
         if self.head >= self.lits.len() {
@@ -293,7 +314,8 @@ impl Trail {
 /// The level of a place: how many levels began there or before.
 fn level_at(starts: &[u32], place: usize) -> u32
     requires few { length starts.now ≤ 4294967295 }
-    requires ordered { (i j : ℕ) → i ≤ j → j < length starts.now → slice_index starts.now i ≤ slice_index starts.now j }
+    requires ordered { (i j : ℕ) → i ≤ j → j < length starts.now
+        → slice_index starts.now i ≤ slice_index starts.now j }
     ensures { IsLevelAt starts.now place result }
 {
     starts.partition_point(|start| *start as usize <= place) as u32

@@ -12,8 +12,8 @@ use gi_chains::Chains;
 use gi_lit::Lit;
 use gi_store::{Key, Store};
 
-/// Has a clause with one true literal, whose others are false, watch that one and one that became false late, if one did: it needs no look then
-/// until that one is free again.
+/// Has a clause with one true literal, whose others are false, watch that one and one that became
+/// false late, if one did: it needs no look then until that one is free again.
 fn watch_late(
     first: &mut Chains,
     second: &mut Chains,
@@ -24,14 +24,16 @@ fn watch_late(
     node: u64,
     forced: Lit,
 ) -> Visited
-    requires watched { IsWatched slots.now first.old second.old store.now trail.now trail.now.head trail.now.head }
+    requires watched { IsWatched slots.now first.old second.old store.now trail.now trail.now.head
+        trail.now.head }
     requires linked { (list : ℕ) × (list < 3) × IsIn first.old list node }
     requires held { Holds store.now node clause.now }
     requires only { (c : List ℕ) → Holds store.now node c → clause.now ≡ c }
     requires stands { Contains clause.now forced }
     requires is_true { Contains trail.now.lits forced }
     requires others { AreOthersFalse trail.now.lits clause.now forced }
-    ensures watched { IsWatched slots.now first.new second.new store.now trail.now trail.now.head trail.now.head }
+    ensures watched { IsWatched slots.now first.new second.new store.now trail.now trail.now.head
+        trail.now.head }
     ensures aside { LeavesAside second.old second.new }
     ensures step { IsPromoted slots.now first.old first.new store.now trail.now node result }
 {
@@ -47,8 +49,8 @@ fn watch_late(
     }
 }
 
-/// Sees to one clause that watches nothing: two watches if two different literals aren't false, else what it forces, with two watches if another
-/// became false late.
+/// Sees to one clause that watches nothing: two watches if two different literals aren't false,
+/// else what it forces, with two watches if another became false late.
 fn promote(
     first: &mut Chains,
     second: &mut Chains,
@@ -57,9 +59,11 @@ fn promote(
     trail: &mut Trail,
     node: u64,
 ) -> Visited
-    requires watched { IsWatched slots.now first.old second.old store.now trail.old trail.old.head trail.old.head }
+    requires watched { IsWatched slots.now first.old second.old store.now trail.old trail.old.head
+        trail.old.head }
     requires linked { (list : ℕ) × (list < 3) × IsIn first.old list node }
-    ensures watched { IsWatched slots.now first.new second.new store.now trail.new trail.new.head trail.new.head }
+    ensures watched { IsWatched slots.now first.new second.new store.now trail.new trail.new.head
+        trail.new.head }
     ensures added { IsAdded slots.now store.now trail.old trail.new }
     ensures aside { LeavesAside second.old second.new }
     ensures step { IsPromoted slots.now first.old first.new store.now trail.new node result }
@@ -92,9 +96,11 @@ fn scan(
     trail: &mut Trail,
     list: u32,
 ) -> Option<Key>
-    requires watched { IsWatched slots.now first.old second.old store.now trail.old trail.old.head trail.old.head }
+    requires watched { IsWatched slots.now first.old second.old store.now trail.old trail.old.head
+        trail.old.head }
     requires list { list < 3 }
-    ensures watched { IsWatched slots.now first.new second.new store.now trail.new trail.new.head trail.new.head }
+    ensures watched { IsWatched slots.now first.new second.new store.now trail.new trail.new.head
+        trail.new.head }
     ensures added { IsAdded slots.now store.now trail.old trail.new }
     ensures first_aside { LeavesAside first.old first.new }
     ensures second_aside { LeavesAside second.old second.new }
@@ -125,12 +131,15 @@ pub(crate) fn scan_all(
     store: &Store,
     trail: &mut Trail,
 ) -> Option<Key>
-    requires { IsWatched slots.now first.old second.old store.now trail.old trail.old.head trail.old.head }
-    ensures watched { IsWatched slots.now first.new second.new store.now trail.new trail.new.head trail.new.head }
+    requires { IsWatched slots.now first.old second.old store.now trail.old trail.old.head
+        trail.old.head }
+    ensures watched { IsWatched slots.now first.new second.new store.now trail.new trail.new.head
+        trail.new.head }
     ensures added { IsAdded slots.now store.now trail.old trail.new }
     ensures first_aside { LeavesAside first.old first.new }
     ensures second_aside { LeavesAside second.old second.new }
-    ensures passed { IfNone result ((list : ℕ) → list < 3 → ArePassed first.new store.now trail.new.lits list) }
+    ensures passed { IfNone result
+        ((list : ℕ) → list < 3 → ArePassed first.new store.now trail.new.lits list) }
     ensures conflict { IfSome result (IsConflict (keys_alone slots.now) store.now trail.new.lits) }
 {
     if let Some(key) = scan(first, second, slots, store, trail, EMPTY) {

@@ -3,7 +3,8 @@ ghost use Rattle.std.specs.Prelude.{◌≡◌};
 use gi_store::Key;
 use std::marker::Model;
 
-/// The key of the clause that forced a literal, or none of a decision, in one word of 32 bits. Contracts see an optional key.
+/// The key of the clause that forced a literal, or none of a decision, in one word of 32 bits.
+/// Contracts see an optional key.
 #[derive(Clone, Copy)]
 pub(crate) struct Why {
     /// 0 for none, else the key's number and one.

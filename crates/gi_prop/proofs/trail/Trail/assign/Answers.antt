@@ -1,4 +1,4 @@
-use Rattle.std.proofs.Common.{◌-◌, ◌≤◌, ◌/◌, length, length-set, [], ◌∷◌, ◌++◌, refl, not, ap, ◌∙◌, arith}
+use Rattle.std.proofs.Common.{◌-◌, length-set, [], ◌∷◌, ◌++◌, refl, not, ap, ◌∙◌, arith}
 use Rattle.gi_prop.proofs.Values.{even_is_not_odd}
 use Rattle.gi_prop.proofs.Keys.{goes_lits}
 use Rattle.gi_prop.proofs.Laying.{laid_push, laid_room, laid_trail}

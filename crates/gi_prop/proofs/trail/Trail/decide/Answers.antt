@@ -1,4 +1,4 @@
-use Rattle.std.proofs.Common.{◌≡◌, length, ap, arith}
+use Rattle.std.proofs.Common.{length, ap, arith}
 use Rattle.gi_prop.specs.TrailView.{TrailView}
 use Rattle.gi_prop.proofs.Laying.{laid_room}
 use Rattle.gi_prop.proofs.trail.Trail.decide.Goals as goal
