@@ -8,7 +8,8 @@ use Rattle.gi_cdcl.specs.Sound.{stored}
 use Rattle.gi_cdcl.specs.declared.assume.Next.{Next}
 use Rattle.gi_cdcl.specs.declared.assume.Next.TheVariants.{AllTrue, Free, Failed}
 
--- an assumption behind `least` others or more, the others before it being true where the part of the trail ends
+-- an assumption behind `least` others or more, the others before it being true where the part of
+-- the trail ends
 pub record IsTurn (assumed lits : List ℕ) (least l : ℕ) : Type 0 where
   pub place : ℕ
   pub low : least ≤ place
@@ -16,11 +17,16 @@ pub record IsTurn (assumed lits : List ℕ) (least l : ℕ) : Type 0 where
   pub is : l ≡ slice_index assumed place
   pub before : All (Contains lits) (take place assumed)
 
--- each level has a decision of its own, and was begun by an assumption when those before it were true, or when all of them were true
+-- each level has a decision of its own, and was begun by an assumption when those before it were
+-- true, or when all of them were true
 pub record DecidesAssumptionsFirst (assumed : List ℕ) (t : TrailView) : Type 0 where
   pub within : (j : ℕ) → j < length t.level_starts → slice_index t.level_starts j < length t.lits
-  pub strict : (i j : ℕ) → i < j → j < length t.level_starts → slice_index t.level_starts i < slice_index t.level_starts j
-  pub each : (j : ℕ) → j < length t.level_starts → IsTurn assumed (take (slice_index t.level_starts j) t.lits) j (slice_index t.lits (slice_index t.level_starts j)) ⊎ All (Contains (take (slice_index t.level_starts j) t.lits)) assumed
+  pub strict : (i j : ℕ) → i < j → j < length t.level_starts
+      → slice_index t.level_starts i < slice_index t.level_starts j
+  pub each : (j : ℕ) → j < length t.level_starts
+      → IsTurn assumed (take (slice_index t.level_starts j) t.lits) j
+      (slice_index t.lits (slice_index t.level_starts j))
+      ⊎ All (Contains (take (slice_index t.level_starts j) t.lits)) assumed
 
 -- the first assumption that isn't true
 abbrev pub IsNext : List ℕ → List ℕ → Next → Type 0
@@ -34,7 +40,11 @@ IsPlaced assumed place AllTrue = Unit {0}
 IsPlaced assumed place (Free l) = (place < length assumed) × (l ≡ slice_index assumed place)
 IsPlaced assumed place (Failed l) = Unit {0}
 
--- whoever derives the failed assumption, the literals at marked places below `at` and the marked decisions comes to a conflict
+-- whoever derives the failed assumption, the literals at marked places below `at` and the marked
+-- decisions comes to a conflict
 abbrev pub LeadsFrom : StoreView → TrailView → ℕ → List Bool → ℕ → Type 0
-LeadsFrom h t failed seen at = (given d : List ℕ) → IsDerivation (stored h) given d → Contains d failed
-    → ((k : ℕ) → k < length t.lits → slice_index_or seen k false ≡ true → (k < at) ⊎ Contains t.level_starts k → Contains d (slice_index t.lits k)) → Conflicts (stored h) given
+LeadsFrom h t failed seen at = (given d : List ℕ) → IsDerivation (stored h) given d
+    → Contains d failed
+    → ((k : ℕ) → k < length t.lits → slice_index_or seen k false ≡ true
+    → (k < at) ⊎ Contains t.level_starts k → Contains d (slice_index t.lits k))
+    → Conflicts (stored h) given

@@ -27,12 +27,14 @@ pub record IsReady (h : StoreView) (t : TrailView) : Type 0 where
   pub leveled : IsLeveled h t
 
 -- so many variables, as far as they are in use, have a value, and so many assumptions are true
-pub record HasPassed (h : StoreView) (t : TrailView) (assumed : List ℕ) (vars lits : ℕ) : Type 0 where
+pub record HasPassed (h : StoreView) (t : TrailView) (assumed : List ℕ) (vars lits : ℕ) : Type
+    0 where
   pub vars_are : IsPassed h t.lits vars
   pub lits_are : All (Contains t.lits) (take lits assumed)
 
 -- all that is known when a step begins
-pub record SearchInvariant (p : Attached) (h : StoreView) (t : TrailView) (assumed : List ℕ) (vars lits : ℕ) : Type 0 where
+pub record SearchInvariant (p : Attached) (h : StoreView) (t : TrailView) (assumed : List ℕ)
+    (vars lits : ℕ) : Type 0 where
   pub known : AreKnown h
   pub tied : AttachedExactly p h t
   pub ready : IsReady h t

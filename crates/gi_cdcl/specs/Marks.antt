@@ -25,16 +25,22 @@ pub record IsPlaceIn (lits clause : List ℕ) (place : ℕ) : Type 0 where
   pub stands : Contains clause lit
   pub at : StandsAt lits (lit / 2) place
 
--- the places of the clause's variables before `end` are marked, and no others; more is how many marks are new from `start` on
-pub record Marks (lits clause : List ℕ) (start end : ℕ) (old new : List Bool) (more : ℕ) : Type 0 where
+-- the places of the clause's variables before `end` are marked, and no others; more is how many
+-- marks are new from `start` on
+pub record Marks (lits clause : List ℕ) (start end : ℕ) (old new : List Bool) (more : ℕ) : Type
+    0 where
   pub len : length new ≡ length old
   pub keeps : (k : ℕ) → slice_index_or old k false ≡ true → slice_index_or new k false ≡ true
-  pub all : All (λ m. (p : ℕ) → p < end → StandsAt lits (m / 2) p → slice_index_or new p false ≡ true) clause
-  pub only : (k : ℕ) → slice_index_or new k false ≡ true → (slice_index_or old k false ≡ true) ⊎ ((k < end) × IsPlaceIn lits clause k)
+  pub all : All (λ m. (p : ℕ) → p < end → StandsAt lits (m / 2) p
+      → slice_index_or new p false ≡ true) clause
+  pub only : (k : ℕ) → slice_index_or new k false ≡ true
+      → (slice_index_or old k false ≡ true) ⊎ ((k < end) × IsPlaceIn lits clause k)
   pub count : marked end new + marked start old ≡ marked end old + marked start new + more
 
--- the clause that was resolved has its literals at marked places, of which one is of the last level, at `top`
-pub record IsCut (h : StoreView) (t : TrailView) (conflict : List ℕ) (start : ℕ) (seen : List Bool) (top : ℕ) : Type 0 where
+-- the clause that was resolved has its literals at marked places, of which one is of the last
+-- level, at `top`
+pub record IsCut (h : StoreView) (t : TrailView) (conflict : List ℕ) (start : ℕ) (seen : List Bool)
+    (top : ℕ) : Type 0 where
   pub len : length t.lits ≤ length seen
   pub low : start ≤ top
   pub high : top < length t.lits
@@ -47,13 +53,18 @@ pub record IsCut (h : StoreView) (t : TrailView) (conflict : List ℕ) (start : 
 -- no mark, or the last one, among the first n places
 abbrev pub IsLast : List Bool → ℕ → Option ℕ → Type 0
 IsLast seen n None = (k : ℕ) → k < n → slice_index_or seen k false ≡ false
-IsLast seen n (Some p) = (p < n) × (slice_index_or seen p false ≡ true) × ((k : ℕ) → p < k → k < n → slice_index_or seen k false ≡ false)
+IsLast seen n (Some p) = (p < n) × (slice_index_or seen p false ≡ true)
+    × ((k : ℕ) → p < k → k < n → slice_index_or seen k false ≡ false)
 
--- the clause of the literal at `top` and of those at marked places among the first n, with the last of these
-pub record IsBuilt (lits : List ℕ) (seen : List Bool) (top n : ℕ) (clause : List ℕ) (last : Option ℕ) : Type 0 where
+-- the clause of the literal at `top` and of those at marked places among the first n, with the last
+-- of these
+pub record IsBuilt (lits : List ℕ) (seen : List Bool) (top n : ℕ) (clause : List ℕ)
+    (last : Option ℕ) : Type 0 where
   pub stands : Contains clause (opposite (slice_index lits top))
-  pub all : (k : ℕ) → k < n → slice_index_or seen k false ≡ true → Contains clause (opposite (slice_index lits k))
-  pub only : (m : ℕ) → Contains clause m → (m ≡ opposite (slice_index lits top)) ⊎ IsMarked lits seen n m
+  pub all : (k : ℕ) → k < n → slice_index_or seen k false ≡ true
+      → Contains clause (opposite (slice_index lits k))
+  pub only : (m : ℕ) → Contains clause m
+      → (m ≡ opposite (slice_index lits top)) ⊎ IsMarked lits seen n m
   pub last_is : IsLast seen n last
 
 -- the greater of a place that may be missing and another
@@ -64,7 +75,8 @@ IsLastOf (Some p) place n = (p ≤ n) × (place ≤ n) × ((n ≡ p) ⊎ (n ≡ 
 -- no place before n, or the last one, among these
 abbrev pub IsLastIn : List ℕ → ℕ → Option ℕ → Type 0
 IsLastIn touched n None = (k : ℕ) → Contains touched k → n ≤ k
-IsLastIn touched n (Some p) = (p < n) × Contains touched p × ((k : ℕ) → Contains touched k → k < n → k ≤ p)
+IsLastIn touched n (Some p) = (p < n) × Contains touched p
+    × ((k : ℕ) → Contains touched k → k < n → k ≤ p)
 
 -- one of these places, before n, makes the literal false
 pub record IsAmong (lits touched : List ℕ) (n m : ℕ) : Type 0 where
@@ -74,10 +86,12 @@ pub record IsAmong (lits touched : List ℕ) (n m : ℕ) : Type 0 where
   pub is : m ≡ opposite (slice_index lits place)
 
 -- the clause of the literal at `top` and of those at these places before n, with the last of these
-pub record IsBuiltOf (lits touched : List ℕ) (top n : ℕ) (clause : List ℕ) (last : Option ℕ) : Type 0 where
+pub record IsBuiltOf (lits touched : List ℕ) (top n : ℕ) (clause : List ℕ) (last : Option ℕ) : Type
+    0 where
   pub stands : Contains clause (opposite (slice_index lits top))
   pub all : (k : ℕ) → Contains touched k → k < n → Contains clause (opposite (slice_index lits k))
-  pub only : (m : ℕ) → Contains clause m → (m ≡ opposite (slice_index lits top)) ⊎ IsAmong lits touched n m
+  pub only : (m : ℕ) → Contains clause m
+      → (m ≡ opposite (slice_index lits top)) ⊎ IsAmong lits touched n m
   pub last_is : IsLastIn touched n last
 
 -- the clause of the key is false

@@ -6,12 +6,14 @@ use Rattle.gi_prop.specs.TrailView.{TrailView}
 use Rattle.gi_prop.specs.Attached.{Attached, IsAttached, IsForcedAt, Goes}
 use Rattle.gi_cdcl.specs.Sound.{IsUsed}
 
--- its attached keys, and its trail; between calls that has the root level alone: what the clauses force where nothing is decided, as far as it was found
+-- its attached keys, and its trail; between calls that has the root level alone: what the clauses
+-- force where nothing is decided, as far as it was found
 pub record Searching : Type 0 where
   pub attached : Attached
   pub root : TrailView
 
--- each attached key has a clause in the store, of variables that the search has room for, and such a clause forced each literal of the root
+-- each attached key has a clause in the store, of variables that the search has room for, and such
+-- a clause forced each literal of the root
 pub record IsRooted (s : Searching) (h : StoreView) : Type 0 where
   pub goes : Goes s.attached h s.root
   pub forced : (k : ℕ) → k < length s.root.lits → IsForcedAt s.attached h s.root k

@@ -12,7 +12,8 @@ stored h = map (λ (e : Entry). e.lits) (entries h)
 -- the place of a literal begins a level, or the clause of its reason forced it
 abbrev pub IsSupported : StoreView → TrailView → ℕ → Option ℕ → Type 0
 IsSupported h t k None = Contains t.level_starts k
-IsSupported h t k (Some r) = (c : List ℕ) × Holds h r c × Forces c (slice_index t.lits k) (take k t.lits)
+IsSupported h t k (Some r) = (c : List ℕ) × Holds h r c
+    × Forces c (slice_index t.lits k) (take k t.lits)
 
 -- each literal was decided at the beginning of a level, or forced
 pub record IsTrailSound (h : StoreView) (t : TrailView) : Type 0 where
@@ -20,7 +21,8 @@ pub record IsTrailSound (h : StoreView) (t : TrailView) : Type 0 where
 
 -- nothing was left to propagate when each level began
 pub record IsLeveled (h : StoreView) (t : TrailView) : Type 0 where
-  pub closed : (j : ℕ) → j < length t.level_starts → IsClosed (stored h) (take (slice_index t.level_starts j) t.lits)
+  pub closed : (j : ℕ) → j < length t.level_starts
+      → IsClosed (stored h) (take (slice_index t.level_starts j) t.lits)
 
 -- of a problem variable or an active guard
 abbrev pub IsUsed : StoreView → ℕ → Type 0

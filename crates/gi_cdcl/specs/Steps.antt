@@ -10,11 +10,13 @@ use Rattle.gi_cdcl.specs.Invariant.{AttachedExactly, SearchInvariant}
 use Rattle.gi_cdcl.specs.declared.step.StepResult.{StepResult}
 use Rattle.gi_cdcl.specs.declared.step.StepResult.TheVariants.{Decided, Learnt, Refuted, Sat, Failed}
 
--- how the news grow: a step learns one clause or none, and where it refutes they aren't as many as were allowed, since none but the empty one is new
+-- how the news grow: a step learns one clause or none, and where it refutes they aren't as many as
+-- were allowed, since none but the empty one is new
 abbrev pub AddsNews : List (List ℕ) → List (List ℕ) → StepResult → Type 0
 AddsNews old new Decided = new ≡ old
 AddsNews old new Learnt = (length new ≡ length old + 1) × EndsNonempty new
-AddsNews old new Refuted = (length new ≤ length old + 1) × ((limit : ℕ) → length old < limit → ¬ IsFull limit new)
+AddsNews old new Refuted = (length new ≤ length old + 1)
+    × ((limit : ℕ) → length old < limit → ¬ IsFull limit new)
 AddsNews old new (Sat values) = new ≡ old
 AddsNews old new (Failed w) = new ≡ old
 
@@ -27,9 +29,15 @@ FindsEmpty old new (Sat values) = ⊥
 FindsEmpty old new (Failed w) = ⊥
 
 -- the search goes on with a literal more or a clause more, or it has a verdict
-abbrev pub LeadsTo : TrailView → Attached → StoreView → TrailView → List ℕ → ℕ → ℕ → StepResult → Type 0
-LeadsTo before p h t assumed vars lits Decided = SearchInvariant p h t assumed vars lits × (t.vars ≡ before.vars) × (length before.lits < length t.lits) × (length t.lits ≤ t.vars)
-LeadsTo before p h t assumed vars lits Learnt = SearchInvariant p h t assumed vars lits × (t.vars ≡ before.vars)
-LeadsTo before p h t assumed vars lits Refuted = AttachedExactly p h t × IsTrailSound h t × IsFailing (problem_of h) assumed (known_of h) []
-LeadsTo before p h t assumed vars lits (Sat values) = AttachedExactly p h t × IsTrailSound h t × IsModel (problem_of h) assumed values
-LeadsTo before p h t assumed vars lits (Failed w) = AttachedExactly p h t × IsTrailSound h t × IsFailing (problem_of h) assumed (known_of h) w
+abbrev pub LeadsTo : TrailView → Attached → StoreView → TrailView → List ℕ → ℕ → ℕ → StepResult
+    → Type 0
+LeadsTo before p h t assumed vars lits Decided = SearchInvariant p h t assumed vars lits
+    × (t.vars ≡ before.vars) × (length before.lits < length t.lits) × (length t.lits ≤ t.vars)
+LeadsTo before p h t assumed vars lits Learnt = SearchInvariant p h t assumed vars lits
+    × (t.vars ≡ before.vars)
+LeadsTo before p h t assumed vars lits Refuted = AttachedExactly p h t × IsTrailSound h t
+    × IsFailing (problem_of h) assumed (known_of h) []
+LeadsTo before p h t assumed vars lits (Sat values) = AttachedExactly p h t × IsTrailSound h t
+    × IsModel (problem_of h) assumed values
+LeadsTo before p h t assumed vars lits (Failed w) = AttachedExactly p h t × IsTrailSound h t
+    × IsFailing (problem_of h) assumed (known_of h) w

@@ -2,7 +2,8 @@
 use Rattle.std.specs.Prelude.{◌≡◌, ℕ, ◌≤◌, Bool, true, false, List, length, slice_index_or, Contains}
 use Rattle.gi_cdcl.specs.Marks.{marked}
 
--- the touched places are those that are marked, each once, there is room for all, and each fits a word of 32 bits
+-- the touched places are those that are marked, each once, there is room for all, and each fits a
+-- word of 32 bits
 pub record IsTouched (flags : List Bool) (touched : List ℕ) (capacity : ℕ) : Type 0 where
   pub all : (k : ℕ) → slice_index_or flags k false ≡ true → Contains touched k
   pub only : (k : ℕ) → Contains touched k → slice_index_or flags k false ≡ true

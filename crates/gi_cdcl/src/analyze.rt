@@ -43,7 +43,8 @@ fn level_at(trail: &Trail, place: usize) -> u32
     }
 }
 
-/// Marks the places of the clause's variables before `end`, and counts the new marks from `start` on.
+/// Marks the places of the clause's variables before `end`, and counts the new marks from `start`
+/// on.
 pub(crate) fn mark_seen(
     clause: &[Lit],
     trail: &Trail,
@@ -81,7 +82,8 @@ fn resolve(store: &Store, trail: &Trail, conflict: &[Lit], seen: &mut Seen) -> u
     requires falsified { IsFalsified trail.now.lits conflict.now }
     requires blank { IsBlank seen.old }
     requires room { length trail.now.lits ≤ length seen.old }
-    ensures { IsCut store.now trail.now conflict.now (slice_index trail.now.level_starts (length trail.now.level_starts - 1)) seen.new result }
+    ensures { IsCut store.now trail.now conflict.now
+        (slice_index trail.now.level_starts (length trail.now.level_starts - 1)) seen.new result }
 {
     let start = trail.start_of(trail.level() - 1);
     let mut at = trail.lits().len();
@@ -126,7 +128,8 @@ fn last_of(last: Option<usize>, place: usize) -> usize
     }
 }
 
-/// The clause of the literals at marked places, that at `top` first, and the last marked place before `start`.
+/// The clause of the literals at marked places, that at `top` first, and the last marked place
+/// before `start`.
 fn build(
     alloc: Global,
     lits: &[Lit],
@@ -165,8 +168,13 @@ pub(crate) fn analyze(
     requires deep { 0 < length trail.now.level_starts }
     requires conflict { HasFalse store.now trail.now.lits conflict }
     requires live { IsLive store.now conflict }
-    ensures uip { IfOk result (λ l. (c : List ℕ) → Holds store.now conflict c → IsUip store.now trail.now c (slice_index trail.now.level_starts (length trail.now.level_starts - 1)) l.clause) }
-    ensures jump { IfOk result (λ l. IsJump trail.now l.clause (slice_index trail.now.level_starts (length trail.now.level_starts - 1)) l.level) }
+    ensures uip { IfOk result
+        (λ l. (c : List ℕ) → Holds store.now conflict c
+        → IsUip store.now trail.now c
+        (slice_index trail.now.level_starts (length trail.now.level_starts - 1)) l.clause) }
+    ensures jump { IfOk result
+        (λ l. IsJump trail.now l.clause
+        (slice_index trail.now.level_starts (length trail.now.level_starts - 1)) l.level) }
 {
     let start = trail.start_of(trail.level() - 1);
     seen.start_over(trail.vars())?;

@@ -25,7 +25,8 @@ pub(crate) enum Next {
     Failed(Lit),
 }
 
-/// The first assumption that isn't true, where the first `passed` of them are known to be. Counts those that are.
+/// The first assumption that isn't true, where the first `passed` of them are known to be. Counts
+/// those that are.
 pub(crate) fn next_assumption(trail: &Trail, assumed: &[Lit], passed: &mut usize) -> Next
     requires within { IsWithin trail.now.vars assumed.now }
     requires passed { All (Contains trail.now.lits) (take passed.old assumed.now) }
@@ -75,7 +76,8 @@ fn is_wanted(trail: &Trail, seen: &Seen, l: Lit, failed: Lit) -> bool
     requires len { length trail.now.lits ≤ length seen.now }
     requires trail { IsTrail trail.now }
     ensures failed { l ≡ failed → IsTrue result }
-    ensures marked { (k : ℕ) → k < length trail.now.lits → slice_index trail.now.lits k ≡ l → IsTrue (slice_index_or seen.now k false) → IsTrue result }
+    ensures marked { (k : ℕ) → k < length trail.now.lits → slice_index trail.now.lits k ≡ l
+        → IsTrue (slice_index_or seen.now k false) → IsTrue result }
 {
     if l == failed {
         return true;
@@ -99,7 +101,10 @@ fn failing(
     requires trail { IsTrail trail.now }
     ensures sublist { IfOk result (λ w. IsSublist w assumed.now) }
     ensures failed { IfOk result (λ w. Contains assumed.now failed → Contains w failed) }
-    ensures marked { IfOk result (λ w. (k : ℕ) → k < length trail.now.lits → IsTrue (slice_index_or seen.now k false) → Contains assumed.now (slice_index trail.now.lits k) → Contains w (slice_index trail.now.lits k)) }
+    ensures marked { IfOk result
+        (λ w. (k : ℕ) → k < length trail.now.lits → IsTrue (slice_index_or seen.now k false)
+        → Contains assumed.now (slice_index trail.now.lits k)
+        → Contains w (slice_index trail.now.lits k)) }
 {
     let mut found = Lits::new(alloc);
     for l in assumed {

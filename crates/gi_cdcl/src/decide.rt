@@ -30,11 +30,14 @@ fn literal(v: Var, phase: bool) -> Lit
     if phase { v.positive() } else { v.negative() }
 }
 
-/// The literal to decide of a variable: none where it has a value, and of a variable that is no more in use.
+/// The literal to decide of a variable: none where it has a value, and of a variable that is no
+/// more in use.
 fn candidate(store: &Store, trail: &Trail, v: Var, phase: bool) -> Option<Lit>
     requires { v ≤ trail.now.vars }
     ensures free { IfSome result (λ l. (l / 2 ≡ v) × HasValue trail.now.lits l None) }
-    ensures other { IfNone result ((l : ℕ) → l / 2 ≡ v → IsUsed store.now l → Contains trail.now.lits l ⊎ Contains trail.now.lits (opposite l)) }
+    ensures other { IfNone result
+        ((l : ℕ) → l / 2 ≡ v → IsUsed store.now l
+        → Contains trail.now.lits l ⊎ Contains trail.now.lits (opposite l)) }
 {
     if !store.is_problem_var(v) && !store.is_active(v) {
         return None;
@@ -64,7 +67,8 @@ fn first_free(store: &Store, trail: &Trail, order: &mut Order) -> Option<Lit>
     None
 }
 
-/// A literal to decide, with the last value of its variable: of the first variable in the order that has no value, else of the least, where the first
+/// A literal to decide, with the last value of its variable: of the first variable in the order
+/// that has no value, else of the least, where the first
 /// `passed` variables are known to have one. None exactly where all that is in use has a value.
 pub(crate) fn free_literal(
     store: &Store,
@@ -84,8 +88,9 @@ pub(crate) fn free_literal(
     }
 }
 
-/// A literal to decide, of the least variable that has no value, where the first `passed` variables are known to have one. None exactly where all
-/// that is in use has a value. Counts the variables that have.
+/// A literal to decide, of the least variable that has no value, where the first `passed` variables
+/// are known to have one. None exactly where all that is in use has a value. Counts the variables
+/// that have.
 fn least_free(store: &Store, trail: &Trail, order: &Order, passed: &mut u32) -> Option<Lit>
     requires vars { store.now.vars ≤ trail.now.vars }
     requires passed { IsPassed store.now trail.now.lits passed.old }
@@ -132,7 +137,8 @@ pub(crate) fn assignment(alloc: Global, trail: &Trail, n: u32) -> Result<Assign,
     Ok(Assign::from_vec(values))
 }
 
-/// Goes back to the root level, and gives the variables back to the order whose literals stood above it.
+/// Goes back to the root level, and gives the variables back to the order whose literals stood
+/// above it.
 pub(crate) fn back_to_root(order: &mut Order, trail: &mut Trail)
     ensures after { trail.new ≡ cancelled 0 trail.old }
     ensures goes { (p : Attached) (s : StoreView) → Goes p s trail.old → Goes p s trail.new }
@@ -153,9 +159,11 @@ pub(crate) fn forget(order: &mut Order, trail: &mut Trail)
     trail.clear();
 }
 
-/// Gives the variables back to the order whose literals stand from a place on, and a number that none of these variables is below.
+/// Gives the variables back to the order whose literals stand from a place on, and a number that
+/// none of these variables is below.
 pub(crate) fn unassign(order: &mut Order, trail: &Trail, start: usize) -> u32
-    ensures { (k : ℕ) → start ≤ k → k < length trail.now.lits → result ≤ slice_index trail.now.lits k / 2 }
+    ensures { (k : ℕ) → start ≤ k → k < length trail.now.lits
+        → result ≤ slice_index trail.now.lits k / 2 }
 {
     let mut least = u32::MAX;
     let lits = trail.lits();

@@ -22,8 +22,8 @@ use gi_prop::{Prop, Trail};
 use gi_store::{Key, Store};
 use std::alloc::AllocError;
 
-/// Stores a clause that a conflict teaches, as the last of the news, and attaches it. After an error it may stand in the store all the same, and
-/// then it is the last of the news.
+/// Stores a clause that a conflict teaches, as the last of the news, and attaches it. After an
+/// error it may stand in the store all the same, and then it is the last of the news.
 fn add_clause(
     prop: &mut Prop,
     trail: &Trail,
@@ -34,8 +34,10 @@ fn add_clause(
     requires within { IsWithin store.old.vars clause }
     requires tied { AttachedExactly prop.old store.old trail.now }
     requires taught { IsTaught store.old clause }
-    requires fresh { IsFresh (problem_of store.old) (known_of store.old) clause × IsDerived (problem_of store.old) (known_of store.old) clause }
-    ensures learnt { (s : StoreView) → HasLearnt s store.old news.old.items → HasLearnt s store.new news.new.items }
+    requires fresh { IsFresh (problem_of store.old) (known_of store.old) clause
+        × IsDerived (problem_of store.old) (known_of store.old) clause }
+    ensures learnt { (s : StoreView) → HasLearnt s store.old news.old.items
+        → HasLearnt s store.new news.new.items }
     ensures few { length news.new.items ≤ length news.old.items + 1 }
     ensures stored { OnOk result (HasStored store.old store.new clause) }
     ensures news { OnOk result (news.new.items ≡ news.old.items ++ clause ∷ []) }
@@ -55,14 +57,16 @@ fn still_passed(passed: u32, least: u32) -> u32
     passed.min(least.saturating_sub(1))
 }
 
-/// How many of the assumptions that were passed are known to be true still where so many levels are left: one for each.
+/// How many of the assumptions that were passed are known to be true still where so many levels are
+/// left: one for each.
 fn still_true(passed: usize, level: u32) -> usize
     ensures { result ≤ level }
 {
     passed.min(level as usize)
 }
 
-/// Learns what a conflict above level 0 teaches, and goes back to the least level at which all its literals but one are false.
+/// Learns what a conflict above level 0 teaches, and goes back to the least level at which all its
+/// literals but one are false.
 fn learn(
     state: &mut SearchState,
     store: &mut Store,
@@ -74,10 +78,16 @@ fn learn(
     requires ready { IsReady store.old state.old.trail }
     requires deep { 0 < length state.old.trail.level_starts }
     requires conflict { HasFalse store.old state.old.trail.lits conflict }
-    ensures learnt { (s : StoreView) → HasLearnt s store.old news.old.items → HasLearnt s store.new news.new.items }
+    ensures learnt { (s : StoreView) → HasLearnt s store.old news.old.items
+        → HasLearnt s store.new news.new.items }
     ensures few { length news.new.items ≤ length news.old.items + 1 }
     ensures adds { OnOk result (AddsNews news.old.items news.new.items Learnt) }
-    ensures going { OnOk result ((assumed : List ℕ) → DecidesAssumptionsFirst assumed state.old.trail → IsWithin store.old.vars assumed → IsPassed store.old state.old.trail.lits state.old.vars_passed → SearchInvariant state.new.prop store.new state.new.trail assumed state.new.vars_passed state.new.assumed_passed) }
+    ensures going { OnOk result
+        ((assumed : List ℕ) → DecidesAssumptionsFirst assumed state.old.trail
+        → IsWithin store.old.vars assumed
+        → IsPassed store.old state.old.trail.lits state.old.vars_passed
+        → SearchInvariant state.new.prop store.new state.new.trail assumed state.new.vars_passed
+        state.new.assumed_passed) }
     ensures vars { OnOk result (state.new.trail.vars ≡ state.old.trail.vars) }
 {
     let _vars = store.vars();
@@ -93,7 +103,8 @@ fn learn(
     Ok(())
 }
 
-/// A conflict where nothing was decided: the clauses fail. The empty clause is learnt, but where a clause is empty already.
+/// A conflict where nothing was decided: the clauses fail. The empty clause is learnt, but where a
+/// clause is empty already.
 fn refute(
     state: &mut SearchState,
     store: &mut Store,
@@ -105,11 +116,16 @@ fn refute(
     requires ready { IsReady store.old state.old.trail }
     requires root { state.old.trail.level_starts ≡ [] }
     requires conflict { HasFalse store.old state.old.trail.lits conflict }
-    ensures learnt { (s : StoreView) → HasLearnt s store.old news.old.items → HasLearnt s store.new news.new.items }
+    ensures learnt { (s : StoreView) → HasLearnt s store.old news.old.items
+        → HasLearnt s store.new news.new.items }
     ensures few { length news.new.items ≤ length news.old.items + 1 }
     ensures adds { IfOk result (AddsNews news.old.items news.new.items) }
-    ensures root { IfOk result (λ step. Contains (stored store.old) [] → FindsEmpty news.old.items news.new.items step) }
-    ensures leads { IfOk result (λ step. (assumed : List ℕ) → LeadsTo state.old.trail state.new.prop store.new state.new.trail assumed state.new.vars_passed state.new.assumed_passed step) }
+    ensures root { IfOk result
+        (λ step. Contains (stored store.old) [] → FindsEmpty news.old.items news.new.items step) }
+    ensures leads { IfOk result
+        (λ step. (assumed : List ℕ)
+        → LeadsTo state.old.trail state.new.prop store.new state.new.trail assumed
+        state.new.vars_passed state.new.assumed_passed step) }
 {
     let _vars = store.vars();
     let _level = state.trail.level();
@@ -132,11 +148,18 @@ pub(crate) fn handle_conflict(
     requires tied { AttachedExactly state.old.prop store.old state.old.trail }
     requires ready { IsReady store.old state.old.trail }
     requires conflict { HasFalse store.old state.old.trail.lits conflict }
-    ensures learnt { (s : StoreView) → HasLearnt s store.old news.old.items → HasLearnt s store.new news.new.items }
+    ensures learnt { (s : StoreView) → HasLearnt s store.old news.old.items
+        → HasLearnt s store.new news.new.items }
     ensures few { length news.new.items ≤ length news.old.items + 1 }
     ensures adds { IfOk result (AddsNews news.old.items news.new.items) }
-    ensures root { IfOk result (λ step. Contains (stored store.old) [] → FindsEmpty news.old.items news.new.items step) }
-    ensures leads { IfOk result (λ step. (assumed : List ℕ) → DecidesAssumptionsFirst assumed state.old.trail → IsWithin store.old.vars assumed → IsPassed store.old state.old.trail.lits state.old.vars_passed → LeadsTo state.old.trail state.new.prop store.new state.new.trail assumed state.new.vars_passed state.new.assumed_passed step) }
+    ensures root { IfOk result
+        (λ step. Contains (stored store.old) [] → FindsEmpty news.old.items news.new.items step) }
+    ensures leads { IfOk result
+        (λ step. (assumed : List ℕ) → DecidesAssumptionsFirst assumed state.old.trail
+        → IsWithin store.old.vars assumed
+        → IsPassed store.old state.old.trail.lits state.old.vars_passed
+        → LeadsTo state.old.trail state.new.prop store.new state.new.trail assumed
+        state.new.vars_passed state.new.assumed_passed step) }
 {
     if state.trail.level() == 0 {
         return refute(state, store, news, conflict);

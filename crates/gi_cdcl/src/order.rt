@@ -6,7 +6,8 @@ use std::alloc::{AllocError, Global};
 /// After so many learnt clauses their variables move to the front.
 const BATCH: u32 = 32;
 
-/// A variable of the batch's clauses: in how many of them it stands, when it moved last, and its place among all variables.
+/// A variable of the batch's clauses: in how many of them it stands, when it moved last, and its
+/// place among all variables.
 #[derive(Clone, Copy, PartialEq, Eq, PartialOrd, Ord)]
 struct Bumped {
     count: u32,
@@ -14,10 +15,12 @@ struct Bumped {
     at: u32,
 }
 
-/// The order in which variables are decided, by moving to the front: all variables stand in one list, and the first that has no value is decided, with
-/// the value that it had last (phase saving). After every 32 learnt clauses their variables move to the front. A variable has the time of its last
-/// move, so that times fall along the list, and a cursor tells before which place all variables have values. No contract speaks of the choice: a
-/// variable that was missed is found by going through all variables.
+/// The order in which variables are decided, by moving to the front: all variables stand in one
+/// list, and the first that has no value is decided, with the value that it had last (phase
+/// saving). After every 32 learnt clauses their variables move to the front. A variable has the
+/// time of its last move, so that times fall along the list, and a cursor tells before which place
+/// all variables have values. No contract speaks of the choice: a variable that was missed is found
+/// by going through all variables.
 #[derive(Drop)]
 pub(crate) struct Order {
     list: VarList,
@@ -46,7 +49,8 @@ impl Order {
         }
     }
 
-    /// Makes the count of variables at least n. The new ones stand in front, the least first, with false as their last value.
+    /// Makes the count of variables at least n. The new ones stand in front, the least first, with
+    /// false as their last value.
     pub(crate) fn grow(&mut self, n: u32) -> Result<(), AllocError> {
         let old = self.list.len();
         self.list.grow(n)?;
@@ -109,7 +113,8 @@ impl Order {
         }
     }
 
-    /// A literal loses its truth: its value is kept, and the cursor goes back to its variable if that stands before it.
+    /// A literal loses its truth: its value is kept, and the cursor goes back to its variable if
+    /// that stands before it.
     pub(crate) fn unassign(&mut self, l: Lit) {
         let at = l.var().index() - 1;
         if at >= self.list.len() {
@@ -125,8 +130,9 @@ impl Order {
         }
     }
 
-    /// Takes a learnt clause into the present batch. Where that is full, the variables of its clauses move to the front: those of the fewest clauses
-    /// first, so that those of the most come to stand in front, and of equal ones in the order in which they stand.
+    /// Takes a learnt clause into the present batch. Where that is full, the variables of its
+    /// clauses move to the front: those of the fewest clauses first, so that those of the most come
+    /// to stand in front, and of equal ones in the order in which they stand.
     pub(crate) fn bump(&mut self, clause: &[Lit]) -> Result<(), AllocError> {
         for l in clause {
             self.met.push(l.var().index() - 1)?;
@@ -141,7 +147,8 @@ impl Order {
         Ok(())
     }
 
-    /// Counts how often each variable of the batch's clauses was met, and sorts them by counts and times.
+    /// Counts how often each variable of the batch's clauses was met, and sorts them by counts and
+    /// times.
     fn rank_met(&mut self) -> Result<(), AllocError> {
         self.met.sort_unstable();
         let mut count: u32 = 0;

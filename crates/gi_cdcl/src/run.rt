@@ -37,13 +37,17 @@ fn run<B: Brake>(
     progress: &mut Progress,
 ) -> Result<Slice, AllocError>
     requires limit { (1 ≤ bounds.limit) × (bounds.limit ≤ 1024) }
-    requires going { SearchInvariant state.old.prop store.old state.old.trail assumed.now state.old.vars_passed state.old.assumed_passed }
+    requires going { SearchInvariant state.old.prop store.old state.old.trail assumed.now
+        state.old.vars_passed state.old.assumed_passed }
     requires news { progress.old.news.items ≡ [] }
     requires mark { (progress.old.mark ≡ B.top brake.old) × (progress.old.mark < bounds.serial) }
     requires asks { B.asks brake.old ≡ 1 }
-    ensures ran { HasRun store.old store.new bounds.limit progress.new.news.items progress.new.mark (B.top brake.new) }
+    ensures ran { HasRun store.old store.new bounds.limit progress.new.news.items progress.new.mark
+        (B.top brake.new) }
     ensures follows { B.follows brake.old brake.new }
-    ensures ended { IfOk result (HasEnded state.new.prop store.old store.new state.new.trail assumed.now bounds.limit bounds.serial progress.new.mark (B.asks brake.new) progress.new.news.items) }
+    ensures ended { IfOk result
+        (HasEnded state.new.prop store.old store.new state.new.trail assumed.now bounds.limit
+        bounds.serial progress.new.mark (B.asks brake.new) progress.new.news.items) }
 {
     'steps: loop {
         match take_step(state, store, assumed, &mut progress.news)? {
@@ -86,9 +90,12 @@ pub(crate) fn start<B: Brake>(
     requires news { progress.old.news.items ≡ [] }
     requires mark { progress.old.mark ≡ B.top brake.old }
     requires asks { B.asks brake.old ≡ 0 }
-    ensures ran { HasRun store.old store.new bounds.limit progress.new.news.items progress.new.mark (B.top brake.new) }
+    ensures ran { HasRun store.old store.new bounds.limit progress.new.news.items progress.new.mark
+        (B.top brake.new) }
     ensures follows { B.follows brake.old brake.new }
-    ensures ended { IfOk result (HasEnded state.new.prop store.old store.new state.new.trail assumed.now bounds.limit bounds.serial progress.new.mark (B.asks brake.new) progress.new.news.items) }
+    ensures ended { IfOk result
+        (HasEnded state.new.prop store.old store.new state.new.trail assumed.now bounds.limit
+        bounds.serial progress.new.mark (B.asks brake.new) progress.new.news.items) }
 {
     if ask(brake, &mut progress.mark, bounds.serial) {
         return Ok(Slice::Braked);

@@ -19,8 +19,9 @@ use gi_store::{Key, Store};
 use std::alloc::{AllocError, Global};
 use std::marker::Model;
 
-/// A search over the clauses of a store. Contracts see which keys are attached, and with which stores it goes. Between calls its trail keeps its root
-/// level: what clauses force where nothing is decided.
+/// A search over the clauses of a store. Contracts see which keys are attached, and with which
+/// stores it goes. Between calls its trail keeps its root level: what clauses force where nothing
+/// is decided.
 #[derive(Drop)]
 pub struct Search {
     state: SearchState,
@@ -55,7 +56,8 @@ impl Search {
         Search { state }
     }
 
-    /// Attaches a key of the store. After an error the same keys are attached as before, and the search goes with the same stores.
+    /// Attaches a key of the store. After an error the same keys are attached as before, and the
+    /// search goes with the same stores.
     pub fn attach(&mut self, store: &Store, key: Key) -> Result<(), AllocError>
         requires goes { MatchesStore self.old store.now }
         requires live { IsLive store.now key }
@@ -63,13 +65,15 @@ impl Search {
         ensures ok { OnOk result (Attaches key self.old.attached self.new.attached) }
         ensures goes { MatchesStore self.new store.now }
         ensures err { OnErr result (HasSameKeys self.old.attached self.new.attached) }
-        ensures err_goes { OnErr result ((h : StoreView) → MatchesStore self.old h → MatchesStore self.new h) }
+        ensures err_goes { OnErr result
+            ((h : StoreView) → MatchesStore self.old h → MatchesStore self.new h) }
     {
         self.state.trail.grow(store.vars())?;
         self.state.prop.attach(store, &self.state.trail, key)
     }
 
-    /// Detaches a key. Takes no memory. Since its clause may have forced what is true at the root, the root is found anew by the next slice.
+    /// Detaches a key. Takes no memory. Since its clause may have forced what is true at the root,
+    /// the root is found anew by the next slice.
     pub fn detach(&mut self, key: Key)
         requires { IsAttached self.old.attached key }
         ensures detached { Detaches key self.old.attached self.new.attached }
@@ -79,10 +83,12 @@ impl Search {
         self.state.prop.detach(key);
     }
 
-    /// Searches until so many clauses were learnt, the brake tells a mark that reaches the serial, or there is a verdict on the clauses in force
-    /// and the assumptions. The clauses that it learns stand in the store, and are attached, unless memory was wanting: then the store's problem is
-    /// as before, what was learnt stands in it, and the search isn't used again. The brake is asked at the start and after each conflict: after each
-    /// that teaches a clause, and after the one at the root where a clause was empty before.
+    /// Searches until so many clauses were learnt, the brake tells a mark that reaches the serial,
+    /// or there is a verdict on the clauses in force and the assumptions. The clauses that it
+    /// learns stand in the store, and are attached, unless memory was wanting: then the store's
+    /// problem is as before, what was learnt stands in it, and the search isn't used again. The
+    /// brake is asked at the start and after each conflict: after each that teaches a clause, and
+    /// after the one at the root where a clause was empty before.
     pub fn slice<B: Brake>(
         &mut self,
         store: &mut Store,
@@ -97,13 +103,16 @@ impl Search {
         requires all { HasAll self.old store.old }
         requires known { AreKnown store.old }
         requires new_brake { (B.top brake.old ≡ 0) × (B.asks brake.old ≡ 0) }
-        ensures slices { Slices store.old store.new assumed.now limit serial result.mark result.news result.end }
+        ensures slices { Slices store.old store.new assumed.now limit serial result.mark result.news
+            result.end }
         ensures keeps { Keeps store.old store.new }
         ensures mark { result.mark ≡ B.top brake.new }
         ensures follows { B.follows brake.old brake.new }
         ensures asks { result.end ≢ NoMemory → length result.news < B.asks brake.new }
-        ensures asks_root { result.end ≢ NoMemory → result.end ≢ Braked → Contains (stored store.old) [] → length result.news + 1 < B.asks brake.new }
-        ensures goes { result.end ≢ NoMemory → MatchesStore self.new store.new × HasAll self.new store.new }
+        ensures asks_root { result.end ≢ NoMemory → result.end ≢ Braked
+            → Contains (stored store.old) [] → length result.news + 1 < B.asks brake.new }
+        ensures goes { result.end ≢ NoMemory
+            → MatchesStore self.new store.new × HasAll self.new store.new }
     {
         let bounds = Bounds { limit, serial };
         let mut progress = Progress {

@@ -4,7 +4,8 @@ ghost use Rattle.gi_cdcl.specs.Touched.{IsTouched, IsBlank, AreMarked};
 use std::alloc::{AllocError, Global};
 use std::marker::Model;
 
-/// Marks on the places of a trail, used by one conflict after the other. Contracts see a flag for each place.
+/// Marks on the places of a trail, used by one conflict after the other. Contracts see a flag for
+/// each place.
 #[derive(Drop)]
 pub(crate) struct Seen {
     flags: Vec<bool>,
@@ -33,7 +34,8 @@ impl Seen {
         }
     }
 
-    /// Takes all marks away, and makes room for n places. Takes time in the number of marks, and memory only for more places than ever before.
+    /// Takes all marks away, and makes room for n places. Takes time in the number of marks, and
+    /// memory only for more places than ever before.
     pub(crate) fn start_over(&mut self, n: usize) -> Result<(), AllocError>
         requires { n ≤ 4294967295 }
         ensures blank { IsBlank self.new }

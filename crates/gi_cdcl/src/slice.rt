@@ -15,7 +15,8 @@ pub enum Slice {
     NoMemory,
 }
 
-/// What a slice of a search gives: the clauses that it learnt, in order, the greatest mark that it saw, and its end.
+/// What a slice of a search gives: the clauses that it learnt, in order, the greatest mark that it
+/// saw, and its end.
 #[derive(Debug, Drop)]
 pub struct Sliced {
     pub news: Clauses,

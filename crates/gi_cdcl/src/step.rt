@@ -35,7 +35,12 @@ fn decide_variable(state: &mut SearchState, store: &Store) -> Result<StepResult,
     requires vars { store.now.vars ≤ state.old.trail.vars }
     requires passed { IsPassed store.now state.old.trail.lits state.old.vars_passed }
     requires levels { length state.old.trail.level_starts ≤ length state.old.trail.lits }
-    ensures leads { IfOk result (λ step. (assumed : List ℕ) (lits : ℕ) → SearchInvariant state.old.prop store.now state.old.trail assumed state.old.vars_passed lits → All (Contains state.old.trail.lits) assumed → LeadsTo state.old.trail state.new.prop store.now state.new.trail assumed state.new.vars_passed lits step) }
+    ensures leads { IfOk result
+        (λ step. (assumed : List ℕ) (lits : ℕ)
+        → SearchInvariant state.old.prop store.now state.old.trail assumed state.old.vars_passed
+        lits → All (Contains state.old.trail.lits) assumed
+        → LeadsTo state.old.trail state.new.prop store.now state.new.trail assumed
+        state.new.vars_passed lits step) }
     ensures adds { IfOk result (λ step. (news : List (List ℕ)) → AddsNews news news step) }
     ensures lits { state.new.assumed_passed ≡ state.old.assumed_passed }
 {
@@ -58,16 +63,20 @@ fn decide_variable(state: &mut SearchState, store: &Store) -> Result<StepResult,
     }
 }
 
-/// Goes on where nothing is left to propagate: decides the next assumption or a variable, or has a verdict.
+/// Goes on where nothing is left to propagate: decides the next assumption or a variable, or has a
+/// verdict.
 fn decide_next(
     state: &mut SearchState,
     store: &Store,
     assumed: &[Lit],
 ) -> Result<StepResult, AllocError>
-    requires going { SearchInvariant state.old.prop store.now state.old.trail assumed.now state.old.vars_passed state.old.assumed_passed }
+    requires going { SearchInvariant state.old.prop store.now state.old.trail assumed.now
+        state.old.vars_passed state.old.assumed_passed }
     requires closed { IsClosed (stored store.now) state.old.trail.lits }
     ensures adds { IfOk result (λ step. (news : List (List ℕ)) → AddsNews news news step) }
-    ensures leads { IfOk result (LeadsTo state.old.trail state.new.prop store.now state.new.trail assumed.now state.new.vars_passed state.new.assumed_passed) }
+    ensures leads { IfOk result
+        (LeadsTo state.old.trail state.new.prop store.now state.new.trail assumed.now
+        state.new.vars_passed state.new.assumed_passed) }
 {
     let _vars = store.vars();
     let _level = state.trail.level();
@@ -98,12 +107,17 @@ pub(crate) fn take_step(
     assumed: &[Lit],
     news: &mut Vec<Clause>,
 ) -> Result<StepResult, AllocError>
-    requires { SearchInvariant state.old.prop store.old state.old.trail assumed.now state.old.vars_passed state.old.assumed_passed }
-    ensures learnt { (s : StoreView) → HasLearnt s store.old news.old.items → HasLearnt s store.new news.new.items }
+    requires { SearchInvariant state.old.prop store.old state.old.trail assumed.now
+        state.old.vars_passed state.old.assumed_passed }
+    ensures learnt { (s : StoreView) → HasLearnt s store.old news.old.items
+        → HasLearnt s store.new news.new.items }
     ensures few { length news.new.items ≤ length news.old.items + 1 }
     ensures adds { IfOk result (AddsNews news.old.items news.new.items) }
-    ensures root { IfOk result (λ step. Contains (stored store.old) [] → FindsEmpty news.old.items news.new.items step) }
-    ensures leads { IfOk result (LeadsTo state.old.trail state.new.prop store.new state.new.trail assumed.now state.new.vars_passed state.new.assumed_passed) }
+    ensures root { IfOk result
+        (λ step. Contains (stored store.old) [] → FindsEmpty news.old.items news.new.items step) }
+    ensures leads { IfOk result
+        (LeadsTo state.old.trail state.new.prop store.new state.new.trail assumed.now
+        state.new.vars_passed state.new.assumed_passed) }
 {
     let _level = state.trail.level();
     match state.prop.propagate(store, &mut state.trail) {

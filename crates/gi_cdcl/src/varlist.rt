@@ -7,7 +7,8 @@ use gi_chains::Chains;
 use std::alloc::{AllocError, Global};
 use std::marker::Model;
 
-/// All variables in one list, each once, with the time of its last move and its last value beside each. A variable goes by its place, from 0; contracts see how many there are.
+/// All variables in one list, each once, with the time of its last move and its last value beside
+/// each. A variable goes by its place, from 0; contracts see how many there are.
 #[derive(Drop)]
 pub(crate) struct VarList {
     chains: Chains,
@@ -43,7 +44,8 @@ impl VarList {
         self.count
     }
 
-    /// Makes the count at least n: the new variables come to stand in front, the least first. Unchanged after an error.
+    /// Makes the count at least n: the new variables come to stand in front, the least first.
+    /// Unchanged after an error.
     pub(crate) fn grow(&mut self, n: u32) -> Result<(), AllocError>
         ensures ok { OnOk result (self.new ≡ max self.old n) }
         ensures err { OnErr result (self.new ≡ self.old) }
@@ -123,7 +125,8 @@ impl VarList {
     }
 }
 
-/// Puts the nodes from one number to another, that one left out, to the front of list 0, the least first.
+/// Puts the nodes from one number to another, that one left out, to the front of list 0, the least
+/// first.
 fn link(chains: &mut Chains, from: u32, end: u32)
     requires from { from ≤ end }
     requires linked { IsLinkedFrom chains.old from end end }
