@@ -1,18 +1,20 @@
 -- What a trail that is closed under all assumptions tells.
-use Rattle.std.proofs.Common.{◌≡◌, ℕ, ◌+◌, ◌<◌, ◌≤◌, Option, Some, None, List, [], ◌∷◌, ◌++◌, length, take, get_or, refl, sym, ap, ◌∙◌, subst, arith, length-append}
+use Rattle.std.proofs.Common.{◌≡◌, ℕ, ◌+◌, ◌<◌, ◌≤◌, Option, Some, None, IfSome, List, [], ◌∷◌, ◌++◌, ◌-◌, length, take, get_or, refl, sym, ap, ◌∙◌, subst, arith, length-append}
 use Rattle.std.specs.List.{All, Contains}
-use Rattle.std.proofs.lemmas.List.{take_at}
+use Rattle.std.proofs.lemmas.List.{length-take, take_at}
 use Rattle.std.proofs.lemmas.List.Elements.{Contains-append_left}
 use Rattle.gi_lit.specs.Literals.{opposite}
 use Rattle.gi_lit.specs.Closure.{IsDerivation, IsClosed, IsConsistent, Conflicts}
 use Rattle.gi_lit.specs.Problem.{full, in_force, IsWellFormed}
 use Rattle.gi_store.specs.StoreView.{StoreView, problem_of}
-use Rattle.gi_prop.specs.TrailView.{IsTrail}
+use Rattle.gi_prop.specs.TrailView.{IsTrail, TrailView}
 use Rattle.gi_model.specs.State.{Scope, Found, listed, scope_assumed, scope_listed}
 use Rattle.gi_model.specs.Tests.{Implies}
 use Rattle.gi_scopes.specs.Under.{base_of, AreReached}
 use Rattle.gi_scopes.specs.Built.{IsBuilt, IsCovered, CoversLevels, IsFor, Rises, IsListedAbove, kept_lits}
-use Rattle.gi_scopes.specs.Listing.{AreBehind, AreKnown, AreListed, IsListing}
+use Rattle.gi_scopes.specs.Listing.{AreBehind, AreKnown, AreListed, HasTrail, IsClosedFor, IsListing, MayStart, Counts}
+use Rattle.gi_scopes.specs.declared.outcome.Outcome.{Outcome}
+use Rattle.gi_scopes.specs.declared.outcome.Outcome.TheVariants.{Listed, Failing}
 use Rattle.gi_scopes.specs.declared.kept.Kept.{Kept}
 use Rattle.gi_scopes.specs.declared.kept.Reach.TheVariants.{Closed}
 use Rattle.gi_scopes.proofs.Attaching.{under_of}
@@ -23,7 +25,7 @@ use Rattle.gi_scopes.proofs.Covering.{covered_known, covered_behind, covered_mor
 use Rattle.gi_scopes.proofs.Few.{few_more}
 use Rattle.gi_scopes.proofs.Shadowing.{nothing_fails, implies}
 
-module _ (s : StoreView) (w : IsWellFormed (problem_of s)) (scs : List Scope) (assumed : List ℕ) (k : Kept) (h : (f : Found) → IsBuilt k (scs ++ record { assumed = assumed; found = f } ∷ []) (base_of s) × (s.vars ≤ k.trail.vars)) (whole : IsTrail k.trail) where
+module _ (s : StoreView) (w : IsWellFormed (problem_of s)) (scs : List Scope) (assumed : List ℕ) (k : Kept) (h : IsClosedFor s scs assumed k) (whole : IsTrail k.trail) where
   abbrev given : List ℕ
   given = scope_assumed scs ++ assumed
 
@@ -98,3 +100,27 @@ module _ (s : StoreView) (w : IsWellFormed (problem_of s)) (scs : List Scope) (a
 
   pub kept_within : (kept : Option Kept) → Rises kept (Closed k) → length (kept_lits kept) ≤ length k.trail.lits
   kept_within kept r = let q = rises_longer kept k r in omega (arith, ap length q.1, length-append (kept_lits kept) q.0)
+
+  -- from the end of the trail that was kept, where that is covered
+  pub start_above : (kept : Option Kept) → IsFor kept scs (base_of s) → Rises kept (Closed k) → (from : ℕ) → from ≡ length (kept_lits kept) → (above : Option ℕ) → IfSome above (IsListedAbove kept (length scs)) → IfSome above (MayStart s scs assumed k from)
+  start_above kept b r from e None a = a
+  start_above kept b r from e (Some n) a = subst (λ (at : ℕ). MayStart s scs assumed k at n) (sym e) (record {
+    within = kept_within kept r;
+    known = kept_known kept b r n a;
+    behind = λ some. kept_behind kept b r n a;
+    covers = λ ls rss l. kept_covers ls rss l kept b r n a;
+  })
+
+  -- from the beginning
+  pub start_anew : (n : ℕ) → length scs ≤ n → (n ≡ length scs → All (Contains k.trail.lits) (scope_listed scs)) → MayStart s scs assumed k 0 n
+  start_anew n high c = record {
+    within = omega arith;
+    known = λ m d lt. absurd (omega (arith, lt, length-take 0 k.trail.lits));
+    behind = λ some. absurd (omega (arith, some));
+    covers = λ ls rss l. anew_covers ls rss l n high c;
+  }
+
+-- a step was counted for each literal behind that place
+pub counts_trail : (t : TrailView) (o : Outcome) (from before now : ℕ) → HasTrail t o → now ≡ before + (length t.lits - from) → Counts from before now o
+counts_trail t (Listed i k) from before now h e = e ∙ ap (λ (u : TrailView). before + (length u.lits - from)) (sym h)
+counts_trail t (Failing w) from before now h e = tt

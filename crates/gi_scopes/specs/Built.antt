@@ -15,13 +15,15 @@ use Rattle.gi_scopes.specs.declared.clash.Clash.{Clash}
 abbrev pub front : TrailView → ℕ → ℕ
 front t j = slice_index_or t.level_starts j (length t.lits)
 
--- built for the clauses of this store and these scopes: the propagator goes with store and trail and has just the clauses' keys, there is a level
--- for each scope, and up to the end of each level the trail is the unit closure under the assumptions up to its scope
+-- built for the clauses of this store and these scopes: the propagator goes with store and trail
+-- and has just the clauses' keys, there is a level for each scope, and up to the end of each level
+-- the trail is the unit closure under the assumptions up to its scope
 pub record IsBuilt (k : Kept) (scopes : List Scope) (s : StoreView) : Type 0 where
   pub goes : Goes k.prop s k.trail
   pub keys : AreProblemKeys k.prop s
   pub count : length k.trail.level_starts ≡ length scopes
-  pub levels : (j : ℕ) → j ≤ length scopes → AreClosed s (scope_assumed (take j scopes)) k.trail (front k.trail j)
+  pub levels : (j : ℕ) → j ≤ length scopes
+      → AreClosed s (scope_assumed (take j scopes)) k.trail (front k.trail j)
 
 -- the negative literal of a guard of one of the groups
 pub record IsOfGuard (s : StoreView) (m : ℕ) : Type 0 where
@@ -29,21 +31,25 @@ pub record IsOfGuard (s : StoreView) (m : ℕ) : Type 0 where
   pub stands : Contains s.groups group
   pub names : Contains (negatives group.guards) m
 
--- each of these literals is assumed or listed by the scopes, or a guard's; and what they list is among them
+-- each of these literals is assumed or listed by the scopes, or a guard's; and what they list is
+-- among them
 pub record IsCovered (s : StoreView) (scopes : List Scope) (lits : List ℕ) : Type 0 where
-  pub known : All (λ m. Contains (scope_assumed scopes ++ scope_listed scopes) m ⊎ IsOfGuard s m) lits
+  pub known : All (λ m. Contains (scope_assumed scopes ++ scope_listed scopes) m ⊎ IsOfGuard s m)
+      lits
   pub there : All (Contains lits) (scope_listed scopes)
 
 -- so it is up to the end of each level above some
 pub record CoversLevels (k : Kept) (scopes : List Scope) (s : StoreView) : Type 0 where
-  pub levels : (j : ℕ) → k.unlisted < j → j ≤ length scopes → IsCovered s (take j scopes) (take (front k.trail j) k.trail.lits)
+  pub levels : (j : ℕ) → k.unlisted < j → j ≤ length scopes
+      → IsCovered s (take j scopes) (take (front k.trail j) k.trail.lits)
 
 -- where one is kept
 abbrev pub IsFor : Option Kept → List Scope → StoreView → Type 0
 IsFor None scopes s = Unit {0}
 IsFor (Some k) scopes s = IsBuilt k scopes s × CoversLevels k scopes s
 
--- so many scopes are open that each literal of the trail that is kept is listed, assumed or a guard's
+-- so many scopes are open that each literal of the trail that is kept is listed, assumed or a
+-- guard's
 abbrev pub IsListedAbove : Option Kept → ℕ → ℕ → Type 0
 IsListedAbove None depth n = ⊥
 IsListedAbove (Some k) depth n = (n ≡ k.unlisted) × (n < depth)
@@ -76,7 +82,8 @@ pub record IsStuck (s : StoreView) (given : List ℕ) (t : TrailView) (c : Clash
 
 -- the trail that was kept has the same literals and levels still
 abbrev pub Stays : Option Kept → Reach → Type 0
-Stays (Some old) (Closed k) = (k.trail.lits ≡ old.trail.lits) × (k.trail.level_starts ≡ old.trail.level_starts)
+Stays (Some old) (Closed k) = (k.trail.lits ≡ old.trail.lits)
+    × (k.trail.level_starts ≡ old.trail.level_starts)
 Stays kept reach = Unit {0}
 
 -- with a level more

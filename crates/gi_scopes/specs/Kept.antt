@@ -12,12 +12,15 @@ IsChosen given (failing w) = IsSublist w given
 -- each scope's is of the assumptions up to its own, behind these
 abbrev pub AreChosen : List ℕ → List Scope → Type 0
 AreChosen given [] = Unit {0}
-AreChosen given (sc ∷ scs) = IsChosen (given ++ sc.assumed) sc.found × AreChosen (given ++ sc.assumed) scs
+AreChosen given (sc ∷ scs) = IsChosen (given ++ sc.assumed) sc.found
+    × AreChosen (given ++ sc.assumed) scs
 
 -- the reasons of each listed literal are assumed or listed before it
 pub record AreEarlier (scopes : List Scope) (reasons : List (List ℕ)) : Type 0 where
   pub count : length reasons ≡ length (scope_listed scopes)
-  pub each : (k : ℕ) → k < length (scope_listed scopes) → All (Contains (before scopes (slice_index (scope_listed scopes) k))) (slice_index_or reasons k [])
+  pub each : (k : ℕ) → k < length (scope_listed scopes)
+      → All (Contains (before scopes (slice_index (scope_listed scopes) k)))
+      (slice_index_or reasons k [])
 
 -- and there are no more scopes than a count of 32 bits tells
 pub record IsOpen (scopes : List Scope) (reasons : List (List ℕ)) : Type 0 where

@@ -1,5 +1,5 @@
--- What contracts see of open scopes: the scopes, the oldest first, and the reasons that were noted for each literal that they list, and the trail
--- that is kept.
+-- What contracts see of open scopes: the scopes, the oldest first, and the reasons that were noted
+-- for each literal that they list, and the trail that is kept.
 use Rattle.std.specs.Prelude.{◌≡◌, ◌≢◌, ℕ, ◌<◌, ◌↔◌, Option, List, [], length, slice_index, slice_index_or, All, Contains}
 use Rattle.gi_lit.specs.Literals.{opposite}
 use Rattle.gi_lit.specs.Lists.{IsDistinct}
@@ -13,7 +13,8 @@ pub record Open : Type 0 where
   pub reasons : List (List ℕ)  -- one list for each literal that the scopes list, in order
   pub kept : Option Kept  -- the trail that is kept, if one is
 
--- a state with these scopes and these pending assumptions, which is all that the definition of a test looks at
+-- a state with these scopes and these pending assumptions, which is all that the definition of a
+-- test looks at
 abbrev pub asked : Problem → List Scope → List ℕ → State
 asked p scopes pending = record opening { problem = p; scopes = scopes; pending = pending }
 
@@ -28,7 +29,8 @@ pub record IsReasoned (p : Problem) (m : ℕ) (rs : List ℕ) : Type 0 where
 -- each listed literal has its reasons, by a clause of this problem
 pub record AreExplained (p : Problem) (scopes : List Scope) (reasons : List (List ℕ)) : Type 0 where
   pub count : length reasons ≡ length (scope_listed scopes)
-  pub each : (k : ℕ) → k < length (scope_listed scopes) → IsReasoned p (slice_index (scope_listed scopes) k) (slice_index_or reasons k [])
+  pub each : (k : ℕ) → k < length (scope_listed scopes)
+      → IsReasoned p (slice_index (scope_listed scopes) k) (slice_index_or reasons k [])
 
 abbrev pub AreReasoned : Problem → Open → Type 0
 AreReasoned p o = AreExplained p o.scopes o.reasons

@@ -11,7 +11,14 @@ use Rattle.gi_scopes.specs.declared.clash.Clash.TheVariants.{Opposite, Clause}
 
 -- the plain clauses and groups of a store alone, with their keys
 abbrev pub base_of : StoreView → StoreView
-base_of s = record { vars = 0; plain = s.plain; groups = s.groups; active = []; freed = []; learnt = [] }
+base_of s = record {
+  vars = 0;
+  plain = s.plain;
+  groups = s.groups;
+  active = [];
+  freed = [];
+  learnt = [];
+}
 
 -- exactly the keys of these clauses are attached
 pub record AreProblemKeys (a : Attached) (s : StoreView) : Type 0 where
@@ -26,15 +33,19 @@ pub record IsImpliedAt (s : StoreView) (t : TrailView) (place : ℕ) : Type 0 wh
   pub held : Holds s key clause
   pub forces : Forces clause (slice_index t.lits place) (take place t.lits)
 
--- the literal at a place is an assumption that nothing forced, or was forced by a clause of the problem
+-- the literal at a place is an assumption that nothing forced, or was forced by a clause of the
+-- problem
 abbrev pub IsReached : StoreView → List ℕ → TrailView → ℕ → Type 0
-IsReached s given t place = ((slice_index_or t.reasons place None ≡ None) × Contains given (slice_index t.lits place)) ⊎ IsImpliedAt s t place
+IsReached s given t place =
+    ((slice_index_or t.reasons place None ≡ None) × Contains given (slice_index t.lits place))
+    ⊎ IsImpliedAt s t place
 
 -- each of the first literals is
 pub record AreReached (s : StoreView) (given : List ℕ) (t : TrailView) (n : ℕ) : Type 0 where
   pub each : (k : ℕ) → k < n → IsReached s given t k
 
--- so many literals are the unit closure under the assumptions: each was reached, all assumptions are there, and no clause forces more
+-- so many literals are the unit closure under the assumptions: each was reached, all assumptions
+-- are there, and no clause forces more
 pub record AreClosed (s : StoreView) (given : List ℕ) (t : TrailView) (n : ℕ) : Type 0 where
   pub reached : AreReached s given t n
   pub whole : All (Contains (take n t.lits)) given

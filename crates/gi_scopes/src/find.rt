@@ -10,7 +10,7 @@ ghost use Rattle.gi_scopes.specs.Traced.{Refutes};
 ghost use Rattle.gi_scopes.specs.Listing.{AreNoted, Closes, Builds, Counts, GrowsLittle};
 
 use crate::clash::Clash;
-use crate::implied::{are_there, implied};
+use crate::closed_trail::{list, start_of};
 use crate::kept::{Kept, Reach, climb, listed_above};
 use crate::level::Level;
 use crate::lists::blank;
@@ -23,7 +23,8 @@ use gi_store::Store;
 use std::alloc::{AllocError, Global};
 use std::sync::ledger::Ledger;
 
-/// Assumptions from which it follows that the literals of a clause are false, with those of the clause among them.
+/// Assumptions from which it follows that the literals of a clause are false, with those of the
+/// clause among them.
 fn culprits(
     alloc: Global,
     store: &Store,
@@ -37,7 +38,9 @@ fn culprits(
     requires reached { AreReached (base_of store.now) given.now trail.now (length trail.now.lits) }
     requires falsified { IsFalsified trail.now.lits clause.now }
     ensures some { IfOk result (λ w. IsSublist w given.now) }
-    ensures refutes { IfOk result (λ w. Refutes (problem_of (base_of store.now)) w clause.now × ((m : ℕ) → Contains clause.now m → Contains given.now m → Contains w m)) }
+    ensures refutes { IfOk result
+        (λ w. Refutes (problem_of (base_of store.now)) w clause.now
+        × ((m : ℕ) → Contains clause.now m → Contains given.now m → Contains w m)) }
 {
     let mut seen = blank(alloc, trail.lits().len())?;
     trace(seen.as_mut_slice(), store, trail, clause);
@@ -83,24 +86,8 @@ fn length_of(kept: &Option<Kept>) -> usize
     }
 }
 
-/// For how many scopes a trail may have literals that aren't listed, after a test that looked at all of it: for those that were open, and for one more
-/// where one of them lists a literal that isn't true.
-fn unlisted_after(trail: &Trail, levels: &[Level]) -> u32
-    requires { length levels.now < 4294967295 }
-    ensures high { length levels.now ≤ result }
-    ensures listed { result ≡ length levels.now → All (Contains trail.now.lits) (scope_listed levels.now) }
-{
-    let depth = levels.len() as u32;
-    for level in levels {
-        if !are_there(trail, level.listed()) {
-            return depth + 1;
-        }
-    }
-    depth
-}
-
-/// What unit closure by the clauses of the problem finds under the assumptions of the scopes and these: what it implies beyond what scopes list, or
-/// assumptions that fail. `given` has them all.
+/// What unit closure by the clauses of the problem finds under the assumptions of the scopes and
+/// these: what it implies beyond what scopes list, or assumptions that fail. `given` has them all.
 pub(crate) fn find<L: Ledger>(
     alloc: Global,
     store: &Store,
@@ -117,11 +104,13 @@ pub(crate) fn find<L: Ledger>(
     requires assumed { IsWithin store.now.vars assumed.now }
     requires given { given.now ≡ scope_assumed levels.now ++ assumed.now }
     requires kept { IsFor kept levels.now (base_of store.now) }
-    ensures closes { IfOk result (Closes (problem_of store.now) given.now (scope_listed levels.now)) }
+    ensures closes { IfOk result
+        (Closes (problem_of store.now) given.now (scope_listed levels.now)) }
     ensures builds { IfOk result (Builds store.now levels.now assumed.now) }
     ensures counts { IfOk result (Counts (length (kept_lits kept)) steps.old steps.new) }
     ensures none { OnOk result (AreNoted [] noted.new.items) }
-    ensures little { IfOk result (GrowsLittle (problem_of store.now) levels.now assumed.now (kept_lits kept)) }
+    ensures little { IfOk result
+        (GrowsLittle (problem_of store.now) levels.now assumed.now (kept_lits kept)) }
 {
     let _vars = store.vars();
     let from = length_of(&kept);
@@ -133,39 +122,11 @@ pub(crate) fn find<L: Ledger>(
             Ok(Outcome::Failing(w))
         }
         Reach::Closed(kept) => {
-            let mut kept = kept;
             let _lits = kept.trail.lits();
             count(steps, from, &kept.trail);
-            match above {
-                Some(n) => {
-                    let listing = implied(
-                        alloc,
-                        store,
-                        &kept.trail,
-                        noted,
-                        from,
-                        assumed,
-                        given,
-                        levels,
-                    )?;
-                    kept.unlisted = n;
-                    Ok(Outcome::Listed(listing, kept))
-                }
-                None => {
-                    let listing = implied(
-                        alloc,
-                        store,
-                        &kept.trail,
-                        noted,
-                        0,
-                        assumed,
-                        given,
-                        levels,
-                    )?;
-                    kept.unlisted = unlisted_after(&kept.trail, levels);
-                    Ok(Outcome::Listed(listing, kept))
-                }
-            }
+            let start = start_of(store, &kept, above, from, levels);
+            let outcome = list(alloc, store, kept, start, noted, levels, assumed, given)?;
+            Ok(outcome)
         }
     }
 }

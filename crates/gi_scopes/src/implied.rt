@@ -16,7 +16,8 @@ use gi_prop::Trail;
 use gi_store::Store;
 use std::alloc::{AllocError, Global};
 
-/// Notes the opposite of a literal, unless it is m or was noted. The codes of what is noted are marked.
+/// Notes the opposite of a literal, unless it is m or was noted. The codes of what is noted are
+/// marked.
 fn note(reasons: &mut Short, noted: &mut [bool], l: Lit, m: Lit) -> Result<(), AllocError>
     requires code { opposite l < length noted.old }
     requires marks { AreNoted reasons.old noted.old }
@@ -47,7 +48,8 @@ fn unmark(noted: &mut [bool], codes: &[u32])
     }
 }
 
-/// The opposites of a clause's literals other than m, each once. There are no marks before and after.
+/// The opposites of a clause's literals other than m, each once. There are no marks before and
+/// after.
 fn others(alloc: Global, noted: &mut [bool], clause: &[Lit], m: Lit) -> Result<Short, AllocError>
     requires codes { All (λ l. opposite l < length noted.old) clause.now }
     requires none { AreNoted [] noted.old }
@@ -77,7 +79,8 @@ fn reasons_at(
     requires none { AreNoted [] noted.old }
     ensures none { OnOk result (AreNoted [] noted.new) }
     ensures count { length noted.new ≡ length noted.old }
-    ensures reasons { IfOk result (λ rs. IsReasoned (problem_of store.now) (slice_index trail.now.lits at) rs) }
+    ensures reasons { IfOk result
+        (λ rs. IsReasoned (problem_of store.now) (slice_index trail.now.lits at) rs) }
     ensures before { IfOk result (λ rs. All (Contains (take at trail.now.lits)) rs) }
 {
     let _vars = store.vars();
@@ -150,7 +153,8 @@ fn known_places(
     levels: &[Level],
 ) -> Result<Vec<bool>, AllocError>
     requires { from ≤ length trail.now.lits }
-    ensures { IfOk result (λ ms. ArePlaces trail.now.lits from (given.now ++ scope_listed levels.now) ms.items) }
+    ensures { IfOk result (λ ms. ArePlaces trail.now.lits from
+        (given.now ++ scope_listed levels.now) ms.items) }
 {
     let mut marks = blank(alloc, trail.lits().len() - from)?;
     for level in levels {
@@ -170,8 +174,10 @@ fn marks_from(
     levels: &[Level],
 ) -> Result<Vec<bool>, AllocError>
     requires from { from ≤ length trail.now.lits }
-    requires behind { 0 < from → AreBehind trail.now.lits from assumed.now (given.now ++ scope_listed levels.now) }
-    ensures { IfOk result (λ ms. ArePlaces trail.now.lits from (given.now ++ scope_listed levels.now) ms.items) }
+    requires behind { 0 < from
+        → AreBehind trail.now.lits from assumed.now (given.now ++ scope_listed levels.now) }
+    ensures { IfOk result (λ ms. ArePlaces trail.now.lits from
+        (given.now ++ scope_listed levels.now) ms.items) }
 {
     if from == 0 {
         return known_places(alloc, trail, from, given, levels);
@@ -182,7 +188,8 @@ fn marks_from(
 /// Whether the literal is of a variable of the problem and its place isn't marked.
 fn is_new(store: &Store, marks: &[bool], place: usize, l: Lit) -> bool
     requires { place < length marks.now }
-    ensures { IsTrue result ↔ (IsProblemVar (problem_of store.now) (l / 2) × (slice_index_or marks.now place false ≡ false)) }
+    ensures { IsTrue result ↔ (IsProblemVar (problem_of store.now) (l / 2)
+        × (slice_index_or marks.now place false ≡ false)) }
 {
     store.is_problem_var(l.var()) && !marks[place]
 }
@@ -201,8 +208,9 @@ fn fit(alloc: Global, noted: &mut Vec<bool>, n: usize) -> Result<(), AllocError>
     Ok(())
 }
 
-/// The literals of problem variables that are no assumption and that no scope lists yet, each with its reasons. Before the first place there are none;
-/// where it isn't the first of all, the last scope's assumptions alone may stand behind it. There are no marks in `noted` before and after.
+/// The literals of problem variables that are no assumption and that no scope lists yet, each with
+/// its reasons. Before the first place there are none; where it isn't the first of all, the last
+/// scope's assumptions alone may stand behind it. There are no marks in `noted` before and after.
 pub(crate) fn implied(
     alloc: Global,
     store: &Store,
@@ -216,9 +224,13 @@ pub(crate) fn implied(
     requires none { AreNoted [] noted.old.items }
     requires reached { AreReached (base_of store.now) given.now trail.now (length trail.now.lits) }
     requires from { from ≤ length trail.now.lits }
-    requires covered { AreKnown (problem_of store.now) (given.now ++ scope_listed levels.now) (take from trail.now.lits) }
-    requires behind { 0 < from → AreBehind trail.now.lits from assumed.now (given.now ++ scope_listed levels.now) }
-    ensures listing { IfOk result (λ i. IsListing (problem_of store.now) given.now (scope_listed levels.now) trail.now.lits i.lits i.reasons.items) }
+    requires covered { AreKnown (problem_of store.now) (given.now ++ scope_listed levels.now)
+        (take from trail.now.lits) }
+    requires behind { 0 < from
+        → AreBehind trail.now.lits from assumed.now (given.now ++ scope_listed levels.now) }
+    ensures listing { IfOk result
+        (λ i. IsListing (problem_of store.now) given.now (scope_listed levels.now) trail.now.lits
+        i.lits i.reasons.items) }
     ensures none { OnOk result (AreNoted [] noted.new.items) }
 {
     let marks = marks_from(alloc, trail, from, assumed, given, levels)?;

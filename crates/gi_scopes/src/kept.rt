@@ -1,9 +1,11 @@
 ghost use Rattle.std.specs.Prelude.{◌≡◌, ◌<◌, ◌≤◌, ℕ, List, ◌++◌, ◌∷◌, [], length, take, All, Contains, IfOk, IfNone, IfSome, OnOk, is_some};
+ghost use Rattle.std.specs.Option.{option_map};
 ghost use Rattle.gi_lit.specs.Closure.{IsClosed};
 ghost use Rattle.gi_lit.specs.Problem.{full};
 ghost use Rattle.gi_store.specs.StoreView.{StoreView, IsWithin, problem_of};
 ghost use Rattle.gi_prop.specs.Attached.{Goes};
 ghost use Rattle.gi_model.specs.State.{Scope, Found, scope_assumed};
+ghost use Rattle.gi_scopes.specs.declared.clash.Clash.TheVariants.{Clause};
 ghost use Rattle.gi_scopes.specs.Under.{base_of, AreProblemKeys, AddsImplied, IsClash};
 ghost use Rattle.gi_scopes.specs.Built.{Reaches, IsBuilt, IsFresh, IsFor, HasReached, Stays, Rises, IsListedAbove};
 
@@ -13,11 +15,12 @@ use crate::level::Level;
 use gi_lit::Lit;
 use gi_prop::laws::edits_keep_goes;
 use gi_prop::{Prop, Trail};
-use gi_store::Store;
+use gi_store::{Key, Store};
 use std::alloc::{AllocError, Global};
 
-/// A trail, with the propagator of the problem's clauses, and for how many scopes it may have literals that aren't listed: where more are open,
-/// each of its literals is assumed, listed, or a guard's.
+/// A trail, with the propagator of the problem's clauses, and for how many scopes it may have
+/// literals that aren't listed: where more are open, each of its literals is assumed, listed, or a
+/// guard's.
 #[derive(Drop)]
 pub struct Kept {
     pub(crate) prop: Prop,
@@ -48,37 +51,43 @@ impl Kept {
         })
     }
 
-    /// Adds what the clauses of the problem force, until they force nothing more or one of them is false.
+    /// Adds what the clauses of the problem force, until they force nothing more or one of them is
+    /// false.
     fn close(&mut self, store: &Store) -> Option<Clash>
         requires goes { Goes self.old.prop (base_of store.now) self.old.trail }
         requires keys { AreProblemKeys self.old.prop (base_of store.now) }
         ensures adds { AddsImplied (base_of store.now) self.old.trail self.new.trail }
         ensures goes { Goes self.new.prop (base_of store.now) self.new.trail }
         ensures keys { AreProblemKeys self.new.prop (base_of store.now) }
-        ensures closed { IfNone result (IsClosed (full (problem_of (base_of store.now))) self.new.trail.lits) }
-        ensures clash { (given : List ℕ) → IfSome result (IsClash store.now given self.new.trail.lits) }
+        ensures closed { IfNone result
+            (IsClosed (full (problem_of (base_of store.now))) self.new.trail.lits) }
+        ensures clash { (given : List ℕ)
+            → IfSome result (IsClash store.now given self.new.trail.lits) }
     {
         edits_keep_goes();
         let _vars = store.vars();
-        match self.prop.propagate(store, &mut self.trail) {
-            None => None,
-            Some(key) => Some(Clash::Clause(key)),
-        }
+        let conflict = self.prop.propagate(store, &mut self.trail);
+        clash_of(conflict)
     }
 
-    /// Begins a level with these assumptions, and adds what the clauses of the problem force. Why that conflicts, if it does.
+    /// Begins a level with these assumptions, and adds what the clauses of the problem force. Why
+    /// that conflicts, if it does.
     fn raise(&mut self, store: &Store, assumed: &[Lit]) -> Result<Option<Clash>, AllocError>
         requires level { length self.old.trail.level_starts < 4294967295 }
         requires within { IsWithin self.old.trail.vars assumed.now }
         requires goes { Goes self.old.prop (base_of store.now) self.old.trail }
         requires keys { AreProblemKeys self.old.prop (base_of store.now) }
         ensures vars { OnOk result (self.new.trail.vars ≡ self.old.trail.vars) }
-        ensures reaches { OnOk result (Reaches (base_of store.now) assumed.now self.old.trail self.new.trail) }
+        ensures reaches { OnOk result
+            (Reaches (base_of store.now) assumed.now self.old.trail self.new.trail) }
         ensures goes { OnOk result (Goes self.new.prop (base_of store.now) self.new.trail) }
         ensures keys { OnOk result (AreProblemKeys self.new.prop (base_of store.now)) }
-        ensures whole { IfOk result (λ o. IfNone o (All (Contains self.new.trail.lits) assumed.now)) }
-        ensures closed { IfOk result (λ o. IfNone o (IsClosed (full (problem_of (base_of store.now))) self.new.trail.lits)) }
-        ensures clash { IfOk result (λ o. IfSome o (IsClash store.now assumed.now self.new.trail.lits)) }
+        ensures whole { IfOk result
+            (λ o. IfNone o (All (Contains self.new.trail.lits) assumed.now)) }
+        ensures closed { IfOk result
+            (λ o. IfNone o (IsClosed (full (problem_of (base_of store.now))) self.new.trail.lits)) }
+        ensures clash { IfOk result
+            (λ o. IfSome o (IsClash store.now assumed.now self.new.trail.lits)) }
     {
         let _level = self.trail.level();
         self.trail.push_level()?;
@@ -88,6 +97,16 @@ impl Kept {
             Some(l) => Ok(Some(Clash::Opposite(l))),
             None => Ok(self.close(store)),
         }
+    }
+}
+
+/// The conflict of a false clause.
+fn clash_of(conflict: Option<Key>) -> Option<Clash>
+    ensures { result ≡ option_map Clause conflict }
+{
+    match conflict {
+        None => None,
+        Some(key) => Some(Clash::Clause(key)),
     }
 }
 
@@ -103,7 +122,8 @@ pub(crate) fn listed_above(kept: &Option<Kept>, levels: &[Level]) -> Option<u32>
 
 /// What is left where the levels above this one are taken away. Takes no memory.
 pub(crate) fn cut(kept: Option<Kept>, level: u32) -> Option<Kept>
-    ensures built { (scopes : List Scope) (s : StoreView) → level ≤ length scopes → IsFor kept scopes s → IsFor result (take level scopes) s }
+    ensures built { (scopes : List Scope) (s : StoreView) → level ≤ length scopes
+        → IsFor kept scopes s → IsFor result (take level scopes) s }
     ensures same { is_some result ≡ is_some kept }
 {
     let Some(kept) = kept else {
@@ -197,7 +217,9 @@ pub(crate) fn climb(
     requires within { IsWithin store.now.vars (scope_assumed levels.now) }
     requires assumed { IsWithin store.now.vars assumed.now }
     requires kept { IsFor kept levels.now (base_of store.now) }
-    ensures reached { IfOk result (λ r. (f : Found) → HasReached store.now (levels.now ++ record { assumed = assumed.now; found = f } ∷ []) r) }
+    ensures reached { IfOk result
+        (λ r. (f : Found) → HasReached store.now (levels.now
+        ++ record { assumed = assumed.now; found = f } ∷ []) r) }
     ensures rises { IfOk result (Rises kept) }
 {
     match base(alloc, store, kept, levels)? {

@@ -36,7 +36,8 @@ impl Implied {
     /// One literal more, with its reasons.
     pub(crate) fn push(&mut self, l: Lit, reasons: Short) -> Result<(), AllocError>
         ensures lits { OnOk result (self.new.lits ≡ self.old.lits ++ l ∷ []) }
-        ensures reasons { OnOk result (self.new.reasons.items ≡ self.old.reasons.items ++ reasons ∷ []) }
+        ensures reasons { OnOk result
+            (self.new.reasons.items ≡ self.old.reasons.items ++ reasons ∷ []) }
     {
         self.lits.push(l)?;
         self.reasons.push(reasons)?;

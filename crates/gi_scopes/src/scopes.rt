@@ -25,9 +25,10 @@ use std::marker::Model;
 use std::mem;
 use std::sync::ledger::Ledger;
 
-/// Scopes that are open. Contracts see their assumptions with what each test found, the oldest first, the reasons of each literal that they
-/// list, and the trail that is kept between calls, with the keys of the clauses that it is built for. A table that has no marks between calls is kept
-/// beside it.
+/// Scopes that are open. Contracts see their assumptions with what each test found, the oldest
+/// first, the reasons of each literal that they list, and the trail that is kept between calls,
+/// with the keys of the clauses that it is built for. A table that has no marks between calls is
+/// kept beside it.
 #[derive(Drop)]
 pub struct Scopes {
     alloc: Global,
@@ -45,7 +46,11 @@ impl Model for Scopes {
 
     ghost Value = { Open };
 
-    ghost view = { λ s. record { scopes = s.levels.items; reasons = s.reasons.items; kept = s.kept } };
+    ghost view = { λ s. record {
+      scopes = s.levels.items;
+      reasons = s.reasons.items;
+      kept = s.kept;
+    } };
 
     ghost invariant = { λ s. IsOpen s.levels.items s.reasons.items × AreNoted [] s.noted.items };
 }
@@ -71,12 +76,15 @@ impl Scopes {
         self.levels.len() as u32
     }
 
-    /// Opens a scope with these assumptions. By the clauses of the problem alone, never by learnt ones, unit closure under the assumptions of all
-    /// open scopes and these either conflicts, or lists the literals of problem variables that are new. It fails exactly where the closure conflicts
-    /// or an open scope has failed. Where literals are implied the trail is kept, one level for each scope, and the next test only adds a level to
-    /// it: so the clauses must be those that it is built for, unless `edited` was called. Where a trail is kept, `steps` rises by one for each
-    /// literal by which it grew: by no more than literals are listed, are assumed, and guards are active, where one was kept before or no scope was
-    /// open. Want of memory opens no scope.
+    /// Opens a scope with these assumptions. By the clauses of the problem alone, never by learnt
+    /// ones, unit closure under the assumptions of all open scopes and these either conflicts, or
+    /// lists the literals of problem variables that are new. It fails exactly where the closure
+    /// conflicts or an open scope has failed. Where literals are implied the trail is kept, one
+    /// level for each scope, and the next test only adds a level to it: so the clauses must be
+    /// those that it is built for, unless `edited` was called. Where a trail is kept, `steps` rises
+    /// by one for each literal by which it grew: by no more than literals are listed, are assumed,
+    /// and guards are active, where one was kept before or no scope was open. Want of memory opens
+    /// no scope.
     pub fn test<L: Ledger>(&mut self, store: &Store, assumed: Lits, steps: &mut Steps<L>) -> Tested
         requires depth { length self.old.scopes < 4294967295 }
         requires assumed { IsWithin store.now.vars assumed }
@@ -85,7 +93,8 @@ impl Scopes {
         requires kept { IsFor self.old.kept self.old.scopes (base_of store.now) }
         ensures answers { TellsTest (problem_of store.now) self.old.scopes assumed result }
         ensures opens { Opens self.old assumed result self.new }
-        ensures reasons { AreReasoned (problem_of store.now) self.old → AreReasoned (problem_of store.now) self.new }
+        ensures reasons { AreReasoned (problem_of store.now) self.old
+            → AreReasoned (problem_of store.now) self.new }
         ensures kept { IsFor self.new.kept self.new.scopes (base_of store.now) }
         ensures keeps { KeepsTrail result self.new.kept }
         ensures ticks { Ticks result self.old self.new steps.old steps.new }
@@ -110,15 +119,16 @@ impl Scopes {
         }
     }
 
-    /// The kept trail is given up, and the next test builds it anew. To be called where clauses of the problem came or went. Takes no memory.
+    /// The kept trail is given up, and the next test builds it anew. To be called where clauses of
+    /// the problem came or went. Takes no memory.
     pub fn edited(&mut self)
         ensures { self.new ≡ record self.old { kept = None } }
     {
         self.kept = None;
     }
 
-    /// What a test with these assumptions finds: the failing set of an open scope, or what unit closure gives. There are no marks in `noted` before and
-    /// after.
+    /// What a test with these assumptions finds: the failing set of an open scope, or what unit
+    /// closure gives. There are no marks in `noted` before and after.
     fn find<L: Ledger>(
         &self,
         store: &Store,
@@ -137,7 +147,8 @@ impl Scopes {
         ensures builds { IfOk result (Builds store.now self.now.scopes assumed.now) }
         ensures counts { IfOk result (Counts (length (kept_lits kept)) steps.old steps.new) }
         ensures none { OnOk result (AreNoted [] noted.new.items) }
-        ensures little { IfOk result (GrowsLittle (problem_of store.now) self.now.scopes assumed.now (kept_lits kept)) }
+        ensures little { IfOk result
+            (GrowsLittle (problem_of store.now) self.now.scopes assumed.now (kept_lits kept)) }
     {
         match first_failing(self.levels.as_slice()) {
             Some(w) => return Ok(Outcome::Failing(w.copy()?)),
@@ -164,8 +175,11 @@ impl Scopes {
         requires depth { length self.old.scopes < 4294967295 }
         requires chosen { IsSublist w (scope_assumed self.old.scopes ++ assumed) }
         ensures told { IfOk result (λ ls. ls ≡ w) }
-        ensures scopes { OnOk result (self.new.scopes ≡ self.old.scopes ++ record { assumed = assumed; found = failing w } ∷ []) }
-        ensures reasons { OnOk result ((p : Problem) → AreReasoned p self.old → AreReasoned p self.new) }
+        ensures scopes { OnOk result
+            (self.new.scopes ≡ self.old.scopes ++ record { assumed = assumed; found = failing w }
+            ∷ []) }
+        ensures reasons { OnOk result
+            ((p : Problem) → AreReasoned p self.old → AreReasoned p self.new) }
         ensures kept { self.new.kept ≡ self.old.kept }
         ensures err { OnErr result (self.new ≡ self.old) }
     {
@@ -179,10 +193,17 @@ impl Scopes {
     /// Opens a scope that lists literals with their reasons, and gives the literals.
     fn open_listing(&mut self, assumed: Lits, listing: Implied) -> Result<Lits, AllocError>
         requires depth { length self.old.scopes < 4294967295 }
-        requires found { (p : Problem) × (k : Kept) × Finds p self.old.scopes assumed (Outcome.Listed listing k) }
+        requires found { (p : Problem) × (k : Kept)
+            × Finds p self.old.scopes assumed (Outcome.Listed listing k) }
         ensures told { IfOk result (λ ls. ls ≡ listing.lits) }
-        ensures scopes { OnOk result (self.new.scopes ≡ self.old.scopes ++ record { assumed = assumed; found = listed listing.lits } ∷ []) }
-        ensures reasons { OnOk result ((p : Problem) (k : Kept) → Finds p self.old.scopes assumed (Outcome.Listed listing k) → AreReasoned p self.old → AreReasoned p self.new) }
+        ensures scopes { OnOk result
+            (self.new.scopes ≡ self.old.scopes ++ record {
+              assumed = assumed;
+              found = listed listing.lits;
+            } ∷ []) }
+        ensures reasons { OnOk result
+            ((p : Problem) (k : Kept) → Finds p self.old.scopes assumed (Outcome.Listed listing k)
+            → AreReasoned p self.old → AreReasoned p self.new) }
         ensures kept { self.new.kept ≡ self.old.kept }
         ensures err { OnErr result (self.new ≡ self.old) }
     {
@@ -195,12 +216,14 @@ impl Scopes {
         Ok(told)
     }
 
-    /// Closes the scope that was opened last, and takes its level off the trail that is kept. Takes no memory.
+    /// Closes the scope that was opened last, and takes its level off the trail that is kept. Takes
+    /// no memory.
     pub fn untest(&mut self)
         requires { 1 ≤ length self.old.scopes }
         ensures scopes { self.new.scopes ≡ take (length self.old.scopes - 1) self.old.scopes }
         ensures reasons { (p : Problem) → AreReasoned p self.old → AreReasoned p self.new }
-        ensures kept { (s : StoreView) → IsFor self.old.kept self.old.scopes s → IsFor self.new.kept self.new.scopes s }
+        ensures kept { (s : StoreView) → IsFor self.old.kept self.old.scopes s
+            → IsFor self.new.kept self.new.scopes s }
         ensures keeps { is_some self.new.kept ≡ is_some self.old.kept }
     {
         let last = self.levels.len() - 1;
@@ -217,7 +240,8 @@ impl Scopes {
         is_listed(self.levels.as_slice(), m)
     }
 
-    /// The assumptions of the open scopes, put behind the others in order. After an error what stood there stands in front.
+    /// The assumptions of the open scopes, put behind the others in order. After an error what
+    /// stood there stands in front.
     pub fn push_assumed(&self, to: &mut Lits) -> Result<(), AllocError>
         ensures ok { OnOk result (to.new ≡ to.old ++ scope_assumed self.now.scopes) }
         ensures err { OnErr result ((added : List ℕ) × (to.new ≡ to.old ++ added)) }
@@ -228,8 +252,9 @@ impl Scopes {
         Ok(())
     }
 
-    /// The literals that imply a listed one together: the opposites of the other literals of the clause that implied it, each once, guards
-    /// among them. `NotImplied` comes exactly where no open scope lists the literal.
+    /// The literals that imply a listed one together: the opposites of the other literals of the
+    /// clause that implied it, each once, guards among them. `NotImplied` comes exactly where no
+    /// open scope lists the literal.
     pub fn reasons(&self, alloc: Global, m: Lit) -> Reasoned
         ensures { TellsReasons self.now m result }
     {

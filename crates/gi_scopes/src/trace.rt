@@ -26,14 +26,17 @@ pub(crate) fn mark(seen: &mut [bool], trail: &Trail, lits: &[Lit])
     }
 }
 
-/// Marks the places of the clause that forced the literal at a place, if that is marked and no assumption.
+/// Marks the places of the clause that forced the literal at a place, if that is marked and no
+/// assumption.
 fn resolve(seen: &mut [bool], store: &Store, trail: &Trail, at: usize)
     requires vars { store.now.vars ≤ trail.now.vars }
     requires count { length seen.old ≡ length trail.now.lits }
     requires at { at < length trail.now.lits }
     requires reached { (given : List ℕ) × IsReached (base_of store.now) given trail.now at }
     ensures kept { KeepsMarks seen.old seen.new }
-    ensures resolved { slice_index_or seen.old at false ≡ true → IsImpliedAt (base_of store.now) trail.now at → IsResolved (problem_of (base_of store.now)) trail.now.lits at seen.new }
+    ensures resolved { slice_index_or seen.old at false ≡ true
+        → IsImpliedAt (base_of store.now) trail.now at
+        → IsResolved (problem_of (base_of store.now)) trail.now.lits at seen.new }
 {
     let _vars = store.vars();
     if seen[at] {
@@ -50,9 +53,12 @@ pub(crate) fn trace(seen: &mut [bool], store: &Store, trail: &Trail, clause: &[L
     requires within { IsWithin trail.now.vars clause.now }
     requires count { length seen.old ≡ length trail.now.lits }
     requires falsified { IsFalsified trail.now.lits clause.now }
-    requires reached { (given : List ℕ) × AreReached (base_of store.now) given trail.now (length trail.now.lits) }
+    requires reached { (given : List ℕ)
+        × AreReached (base_of store.now) given trail.now (length trail.now.lits) }
     ensures count { length seen.new ≡ length seen.old }
-    ensures leads { (given : List ℕ) → AreReached (base_of store.now) given trail.now (length trail.now.lits) → LeadsToFalse (problem_of (base_of store.now)) given trail.now.lits seen.new clause.now 0 }
+    ensures leads { (given : List ℕ)
+        → AreReached (base_of store.now) given trail.now (length trail.now.lits)
+        → LeadsToFalse (problem_of (base_of store.now)) given trail.now.lits seen.new clause.now 0 }
     ensures seen { AreSeen trail.now.lits clause.now seen.new }
 {
     mark(seen, trail, clause);
@@ -67,7 +73,8 @@ pub(crate) fn trace(seen: &mut [bool], store: &Store, trail: &Trail, clause: &[L
 fn is_seen(trail: &Trail, seen: &[bool], l: Lit) -> bool
     requires var { l / 2 ≤ trail.now.vars }
     requires count { length seen.now ≡ length trail.now.lits }
-    ensures { (q : ℕ) → StandsAt trail.now.lits (l / 2) q → result ≡ slice_index_or seen.now q false }
+    ensures { (q : ℕ) → StandsAt trail.now.lits (l / 2) q
+        → result ≡ slice_index_or seen.now q false }
 {
     let _level = trail.level();
     match trail.place_of(l.var()) {

@@ -1,19 +1,18 @@
-use Rattle.std.proofs.Common.{◌++◌, ◌∷◌, [], ◌≤◌, ◌/◌, ℕ, List, length, sym, ◌∙◌, subst}
+use Rattle.std.proofs.Common.{◌++◌, ◌∷◌, [], ◌≤◌, ◌/◌, ℕ, List, length, sym, ◌∙◌, subst, arith}
 use Rattle.std.proofs.lemmas.List.Elements.{All-append}
 use Rattle.gi_lit.specs.Closure.{Conflicts}
-use Rattle.gi_lit.specs.Problem.{Problem, in_force, IsWellFormed}
+use Rattle.gi_lit.specs.Problem.{in_force, IsWellFormed}
 use Rattle.gi_store.specs.StoreView.{StoreView, IsWithin, problem_of}
 use Rattle.gi_prop.specs.TrailView.{TrailView}
-use Rattle.gi_model.specs.State.{Scope, Found, listed, scope_assumed, scope_listed}
-use Rattle.gi_scopes.specs.Under.{base_of}
-use Rattle.gi_scopes.specs.Built.{IsBuilt, IsStuck, HasReached, Rises, IsListedAbove}
-use Rattle.gi_scopes.specs.Listing.{IsListing}
+use Rattle.gi_model.specs.State.{Scope, Found, listed, scope_assumed}
+use Rattle.gi_scopes.specs.Built.{IsStuck, HasReached, Rises, kept_lits}
+use Rattle.gi_scopes.specs.Listing.{IsClosedFor}
 use Rattle.gi_scopes.specs.declared.clash.Clash.{Clash}
 use Rattle.gi_scopes.specs.declared.kept.Reach.TheVariants.{Closed}
 use Rattle.gi_scopes.specs.declared.clash.Clash.TheVariants.{Opposite, Clause}
 use Rattle.gi_scopes.proofs.Attaching.{under_of}
 use Rattle.gi_scopes.proofs.Listing.{scope_assumed-push}
-use Rattle.gi_scopes.proofs.Closed.{closed_reached, closed_built, closed_closes, closed_little, anew_covers, kept_covers, kept_known, kept_behind, kept_within}
+use Rattle.gi_scopes.proofs.Closed.{counts_trail, start_above}
 use Rattle.gi_scopes.proofs.Shadowing.{conflict_closes, conflict_in_force, opposite_in_force}
 use Rattle.gi_scopes.proofs.find.find.Goals as goal
 
@@ -28,162 +27,25 @@ failing-requires-clause-stuck g c =
     let st : IsStuck s (scope_assumed (scs ++ sc ∷ [])) c.in-Stuck.kept.trail c.in-Stuck.clash = subst (HasReached s (scs ++ sc ∷ [])) c.in-Stuck.is (c.in_ok-kept.ensures.reached none_found) in
     subst (λ xs. IsStuck s xs c.in-Stuck.kept.trail c.in-Stuck.clash) (scope_assumed-push scs sc ∙ sym c.requires.given) st
 
-pub implied-requires-clause-reached : goal.implied-requires-clause-reached
-implied-requires-clause-reached g c =
-    let s = c.args.store.now in
-    let p : Problem = problem_of c.args.store.now in
-    let scs : List Scope = c.args.levels.now in
-    let assumed : List ℕ = c.args.assumed.now in
-    let k = c.in-Closed.kept in
-    let wf : IsWellFormed (problem_of c.args.store.now) = c.vars-vars.ensures.whole.well_formed in
-    let whole = c.lits-lits.ensures.trail in
-    let h : (f : Found) → IsBuilt c.in-Closed.kept (c.args.levels.now ++ record { assumed = c.args.assumed.now; found = f } ∷ []) (base_of c.args.store.now) × (c.args.store.now.vars ≤ c.in-Closed.kept.trail.vars) = λ f. subst (HasReached s (scs ++ record { assumed = c.args.assumed.now; found = f } ∷ [])) c.in-Closed.is (c.in_ok-kept.ensures.reached f) in
-    let r : Rises c.args.kept (Closed c.in-Closed.kept) = subst (Rises c.args.kept) c.in-Closed.is c.in_ok-kept.ensures.rises in
-    rw c.requires.given (closed_reached s wf scs assumed k h whole)
+pub list-requires-clause-closed : goal.list-requires-clause-closed
+list-requires-clause-closed g c = λ f. subst (HasReached c.args.store.now (c.args.levels.now ++ record { assumed = c.args.assumed.now; found = f } ∷ [])) c.in-Closed.is (c.in_ok-kept.ensures.reached f)
 
-pub implied-requires-clause-from : goal.implied-requires-clause-from
-implied-requires-clause-from g c =
+pub list-requires-clause-start : goal.list-requires-clause-start
+list-requires-clause-start g c =
     let s = c.args.store.now in
-    let p : Problem = problem_of c.args.store.now in
     let scs : List Scope = c.args.levels.now in
     let assumed : List ℕ = c.args.assumed.now in
-    let k = c.in-Closed.kept in
-    let wf : IsWellFormed (problem_of c.args.store.now) = c.vars-vars.ensures.whole.well_formed in
-    let whole = c.lits-lits.ensures.trail in
-    let h : (f : Found) → IsBuilt c.in-Closed.kept (c.args.levels.now ++ record { assumed = c.args.assumed.now; found = f } ∷ []) (base_of c.args.store.now) × (c.args.store.now.vars ≤ c.in-Closed.kept.trail.vars) = λ f. subst (HasReached s (scs ++ record { assumed = c.args.assumed.now; found = f } ∷ [])) c.in-Closed.is (c.in_ok-kept.ensures.reached f) in
-    let r : Rises c.args.kept (Closed c.in-Closed.kept) = subst (Rises c.args.kept) c.in-Closed.is c.in_ok-kept.ensures.rises in
-    rw c.length_of-from.ensures (kept_within s wf scs assumed k h whole c.args.kept r)
+    let closed : IsClosedFor c.args.store.now c.args.levels.now c.args.assumed.now c.in-Closed.kept = list-requires-clause-closed g c in
+    let rises : Rises c.args.kept (Closed c.in-Closed.kept) = subst (Rises c.args.kept) c.in-Closed.is c.in_ok-kept.ensures.rises in
+    c.start_of-start.ensures assumed closed
+    (start_above s c.vars-vars.ensures.whole.well_formed scs assumed c.in-Closed.kept closed c.lits-lits.ensures.trail c.args.kept c.requires.kept rises c.length_of-from.result c.length_of-from.ensures c.listed_above-above.result c.listed_above-above.ensures)
 
-pub implied-requires-clause-covered : goal.implied-requires-clause-covered
-implied-requires-clause-covered g c =
-    let s = c.args.store.now in
-    let p : Problem = problem_of c.args.store.now in
-    let scs : List Scope = c.args.levels.now in
-    let assumed : List ℕ = c.args.assumed.now in
-    let k = c.in-Closed.kept in
-    let wf : IsWellFormed (problem_of c.args.store.now) = c.vars-vars.ensures.whole.well_formed in
-    let whole = c.lits-lits.ensures.trail in
-    let h : (f : Found) → IsBuilt c.in-Closed.kept (c.args.levels.now ++ record { assumed = c.args.assumed.now; found = f } ∷ []) (base_of c.args.store.now) × (c.args.store.now.vars ≤ c.in-Closed.kept.trail.vars) = λ f. subst (HasReached s (scs ++ record { assumed = c.args.assumed.now; found = f } ∷ [])) c.in-Closed.is (c.in_ok-kept.ensures.reached f) in
-    let r : Rises c.args.kept (Closed c.in-Closed.kept) = subst (Rises c.args.kept) c.in-Closed.is c.in_ok-kept.ensures.rises in
-    let n : IsListedAbove c.args.kept (length c.args.levels.now) c.in-Some.n = c.in-Some.ensures in
-    rw (c.requires.given, c.length_of-from.ensures) (kept_known s wf scs assumed k h whole c.args.kept c.requires.kept r c.in-Some.n n)
+pub returns-in_ok-outcome-in-Closed-clause-counts : goal.returns-in_ok-outcome-in-Closed-clause-counts
+returns-in_ok-outcome-in-Closed-clause-counts g c =
+    counts_trail c.in-Closed.kept.trail c.in_ok-outcome-in-Closed.outcome (length (kept_lits c.args.kept)) c.args.steps.now c.count-in-Closed.new.steps c.in_ok-outcome-in-Closed.ensures.trail (omega arith)
 
-pub implied-requires-clause-behind : goal.implied-requires-clause-behind
-implied-requires-clause-behind g c some =
-    let s = c.args.store.now in
-    let p : Problem = problem_of c.args.store.now in
-    let scs : List Scope = c.args.levels.now in
-    let assumed : List ℕ = c.args.assumed.now in
-    let k = c.in-Closed.kept in
-    let wf : IsWellFormed (problem_of c.args.store.now) = c.vars-vars.ensures.whole.well_formed in
-    let whole = c.lits-lits.ensures.trail in
-    let h : (f : Found) → IsBuilt c.in-Closed.kept (c.args.levels.now ++ record { assumed = c.args.assumed.now; found = f } ∷ []) (base_of c.args.store.now) × (c.args.store.now.vars ≤ c.in-Closed.kept.trail.vars) = λ f. subst (HasReached s (scs ++ record { assumed = c.args.assumed.now; found = f } ∷ [])) c.in-Closed.is (c.in_ok-kept.ensures.reached f) in
-    let r : Rises c.args.kept (Closed c.in-Closed.kept) = subst (Rises c.args.kept) c.in-Closed.is c.in_ok-kept.ensures.rises in
-    let n : IsListedAbove c.args.kept (length c.args.levels.now) c.in-Some.n = c.in-Some.ensures in
-    rw (c.requires.given, c.length_of-from.ensures) (kept_behind s wf scs assumed k h whole c.args.kept c.requires.kept r c.in-Some.n n)
-
-pub implied-requires-in-None-clause-reached : goal.implied-requires-in-None-clause-reached
-implied-requires-in-None-clause-reached g c =
-    let s = c.args.store.now in
-    let p : Problem = problem_of c.args.store.now in
-    let scs : List Scope = c.args.levels.now in
-    let assumed : List ℕ = c.args.assumed.now in
-    let k = c.in-Closed.kept in
-    let wf : IsWellFormed (problem_of c.args.store.now) = c.vars-vars.ensures.whole.well_formed in
-    let whole = c.lits-lits.ensures.trail in
-    let h : (f : Found) → IsBuilt c.in-Closed.kept (c.args.levels.now ++ record { assumed = c.args.assumed.now; found = f } ∷ []) (base_of c.args.store.now) × (c.args.store.now.vars ≤ c.in-Closed.kept.trail.vars) = λ f. subst (HasReached s (scs ++ record { assumed = c.args.assumed.now; found = f } ∷ [])) c.in-Closed.is (c.in_ok-kept.ensures.reached f) in
-    let r : Rises c.args.kept (Closed c.in-Closed.kept) = subst (Rises c.args.kept) c.in-Closed.is c.in_ok-kept.ensures.rises in
-    rw c.requires.given (closed_reached s wf scs assumed k h whole)
-
-pub returns-in_ok-listing-in-Some-clause-closes : goal.returns-in_ok-listing-in-Some-clause-closes
-returns-in_ok-listing-in-Some-clause-closes g c =
-    let s = c.args.store.now in
-    let p : Problem = problem_of c.args.store.now in
-    let scs : List Scope = c.args.levels.now in
-    let assumed : List ℕ = c.args.assumed.now in
-    let k = c.in-Closed.kept in
-    let wf : IsWellFormed (problem_of c.args.store.now) = c.vars-vars.ensures.whole.well_formed in
-    let whole = c.lits-lits.ensures.trail in
-    let h : (f : Found) → IsBuilt c.in-Closed.kept (c.args.levels.now ++ record { assumed = c.args.assumed.now; found = f } ∷ []) (base_of c.args.store.now) × (c.args.store.now.vars ≤ c.in-Closed.kept.trail.vars) = λ f. subst (HasReached s (scs ++ record { assumed = c.args.assumed.now; found = f } ∷ [])) c.in-Closed.is (c.in_ok-kept.ensures.reached f) in
-    let r : Rises c.args.kept (Closed c.in-Closed.kept) = subst (Rises c.args.kept) c.in-Closed.is c.in_ok-kept.ensures.rises in
-    let i = c.in_ok-listing-in-Some.listing in
-    let l = subst (λ xs. IsListing p xs (scope_listed scs) k.trail.lits c.in_ok-listing-in-Some.listing.lits c.in_ok-listing-in-Some.listing.reasons.items) c.requires.given c.in_ok-listing-in-Some.ensures.listing in
-    rw c.requires.given (closed_closes s wf scs assumed k h whole i.lits i.reasons.items l)
-
-pub returns-in_ok-listing-in-Some-clause-builds : goal.returns-in_ok-listing-in-Some-clause-builds
-returns-in_ok-listing-in-Some-clause-builds g c =
-    let s = c.args.store.now in
-    let p : Problem = problem_of c.args.store.now in
-    let scs : List Scope = c.args.levels.now in
-    let assumed : List ℕ = c.args.assumed.now in
-    let k = c.in-Closed.kept in
-    let wf : IsWellFormed (problem_of c.args.store.now) = c.vars-vars.ensures.whole.well_formed in
-    let whole = c.lits-lits.ensures.trail in
-    let h : (f : Found) → IsBuilt c.in-Closed.kept (c.args.levels.now ++ record { assumed = c.args.assumed.now; found = f } ∷ []) (base_of c.args.store.now) × (c.args.store.now.vars ≤ c.in-Closed.kept.trail.vars) = λ f. subst (HasReached s (scs ++ record { assumed = c.args.assumed.now; found = f } ∷ [])) c.in-Closed.is (c.in_ok-kept.ensures.reached f) in
-    let r : Rises c.args.kept (Closed c.in-Closed.kept) = subst (Rises c.args.kept) c.in-Closed.is c.in_ok-kept.ensures.rises in
-    let i = c.in_ok-listing-in-Some.listing in
-    let l = subst (λ xs. IsListing p xs (scope_listed scs) k.trail.lits c.in_ok-listing-in-Some.listing.lits c.in_ok-listing-in-Some.listing.reasons.items) c.requires.given c.in_ok-listing-in-Some.ensures.listing in
-    (closed_built s wf scs assumed k h whole c.in-Some.n (listed i.lits), kept_covers s wf scs assumed k h whole i.lits i.reasons.items l c.args.kept c.requires.kept r c.in-Some.n c.in-Some.ensures)
-
-pub returns-in_ok-listing-in-Some-clause-little : goal.returns-in_ok-listing-in-Some-clause-little
-returns-in_ok-listing-in-Some-clause-little g c known =
-    let s = c.args.store.now in
-    let p : Problem = problem_of c.args.store.now in
-    let scs : List Scope = c.args.levels.now in
-    let assumed : List ℕ = c.args.assumed.now in
-    let k = c.in-Closed.kept in
-    let wf : IsWellFormed (problem_of c.args.store.now) = c.vars-vars.ensures.whole.well_formed in
-    let whole = c.lits-lits.ensures.trail in
-    let h : (f : Found) → IsBuilt c.in-Closed.kept (c.args.levels.now ++ record { assumed = c.args.assumed.now; found = f } ∷ []) (base_of c.args.store.now) × (c.args.store.now.vars ≤ c.in-Closed.kept.trail.vars) = λ f. subst (HasReached s (scs ++ record { assumed = c.args.assumed.now; found = f } ∷ [])) c.in-Closed.is (c.in_ok-kept.ensures.reached f) in
-    let r : Rises c.args.kept (Closed c.in-Closed.kept) = subst (Rises c.args.kept) c.in-Closed.is c.in_ok-kept.ensures.rises in
-    let i = c.in_ok-listing-in-Some.listing in
-    let l = subst (λ xs. IsListing p xs (scope_listed scs) k.trail.lits c.in_ok-listing-in-Some.listing.lits c.in_ok-listing-in-Some.listing.reasons.items) c.requires.given c.in_ok-listing-in-Some.ensures.listing in
-    closed_little s wf scs assumed k h whole i.lits i.reasons.items l c.args.kept r known
-
-pub returns-in_ok-listing-in-None-clause-closes : goal.returns-in_ok-listing-in-None-clause-closes
-returns-in_ok-listing-in-None-clause-closes g c =
-    let s = c.args.store.now in
-    let p : Problem = problem_of c.args.store.now in
-    let scs : List Scope = c.args.levels.now in
-    let assumed : List ℕ = c.args.assumed.now in
-    let k = c.in-Closed.kept in
-    let wf : IsWellFormed (problem_of c.args.store.now) = c.vars-vars.ensures.whole.well_formed in
-    let whole = c.lits-lits.ensures.trail in
-    let h : (f : Found) → IsBuilt c.in-Closed.kept (c.args.levels.now ++ record { assumed = c.args.assumed.now; found = f } ∷ []) (base_of c.args.store.now) × (c.args.store.now.vars ≤ c.in-Closed.kept.trail.vars) = λ f. subst (HasReached s (scs ++ record { assumed = c.args.assumed.now; found = f } ∷ [])) c.in-Closed.is (c.in_ok-kept.ensures.reached f) in
-    let r : Rises c.args.kept (Closed c.in-Closed.kept) = subst (Rises c.args.kept) c.in-Closed.is c.in_ok-kept.ensures.rises in
-    let i = c.in_ok-listing-in-None.listing in
-    let l = subst (λ xs. IsListing p xs (scope_listed scs) k.trail.lits c.in_ok-listing-in-None.listing.lits c.in_ok-listing-in-None.listing.reasons.items) c.requires.given c.in_ok-listing-in-None.ensures.listing in
-    rw c.requires.given (closed_closes s wf scs assumed k h whole i.lits i.reasons.items l)
-
-pub returns-in_ok-listing-in-None-clause-builds : goal.returns-in_ok-listing-in-None-clause-builds
-returns-in_ok-listing-in-None-clause-builds g c =
-    let s = c.args.store.now in
-    let p : Problem = problem_of c.args.store.now in
-    let scs : List Scope = c.args.levels.now in
-    let assumed : List ℕ = c.args.assumed.now in
-    let k = c.in-Closed.kept in
-    let wf : IsWellFormed (problem_of c.args.store.now) = c.vars-vars.ensures.whole.well_formed in
-    let whole = c.lits-lits.ensures.trail in
-    let h : (f : Found) → IsBuilt c.in-Closed.kept (c.args.levels.now ++ record { assumed = c.args.assumed.now; found = f } ∷ []) (base_of c.args.store.now) × (c.args.store.now.vars ≤ c.in-Closed.kept.trail.vars) = λ f. subst (HasReached s (scs ++ record { assumed = c.args.assumed.now; found = f } ∷ [])) c.in-Closed.is (c.in_ok-kept.ensures.reached f) in
-    let r : Rises c.args.kept (Closed c.in-Closed.kept) = subst (Rises c.args.kept) c.in-Closed.is c.in_ok-kept.ensures.rises in
-    let i = c.in_ok-listing-in-None.listing in
-    let l = subst (λ xs. IsListing p xs (scope_listed scs) k.trail.lits c.in_ok-listing-in-None.listing.lits c.in_ok-listing-in-None.listing.reasons.items) c.requires.given c.in_ok-listing-in-None.ensures.listing in
-    (closed_built s wf scs assumed k h whole c.unlisted_after.result (listed i.lits), anew_covers s wf scs assumed k h whole i.lits i.reasons.items l c.unlisted_after.result c.unlisted_after.ensures.high c.unlisted_after.ensures.listed)
-
-pub returns-in_ok-listing-in-None-clause-little : goal.returns-in_ok-listing-in-None-clause-little
-returns-in_ok-listing-in-None-clause-little g c known =
-    let s = c.args.store.now in
-    let p : Problem = problem_of c.args.store.now in
-    let scs : List Scope = c.args.levels.now in
-    let assumed : List ℕ = c.args.assumed.now in
-    let k = c.in-Closed.kept in
-    let wf : IsWellFormed (problem_of c.args.store.now) = c.vars-vars.ensures.whole.well_formed in
-    let whole = c.lits-lits.ensures.trail in
-    let h : (f : Found) → IsBuilt c.in-Closed.kept (c.args.levels.now ++ record { assumed = c.args.assumed.now; found = f } ∷ []) (base_of c.args.store.now) × (c.args.store.now.vars ≤ c.in-Closed.kept.trail.vars) = λ f. subst (HasReached s (scs ++ record { assumed = c.args.assumed.now; found = f } ∷ [])) c.in-Closed.is (c.in_ok-kept.ensures.reached f) in
-    let r : Rises c.args.kept (Closed c.in-Closed.kept) = subst (Rises c.args.kept) c.in-Closed.is c.in_ok-kept.ensures.rises in
-    let i = c.in_ok-listing-in-None.listing in
-    let l = subst (λ xs. IsListing p xs (scope_listed scs) k.trail.lits c.in_ok-listing-in-None.listing.lits c.in_ok-listing-in-None.listing.reasons.items) c.requires.given c.in_ok-listing-in-None.ensures.listing in
-    closed_little s wf scs assumed k h whole i.lits i.reasons.items l c.args.kept r known
+pub returns-in_ok-outcome-in-Closed-clause-little : goal.returns-in_ok-outcome-in-Closed-clause-little
+returns-in_ok-outcome-in-Closed-clause-little g c = c.in_ok-outcome-in-Closed.ensures.little c.args.kept (subst (Rises c.args.kept) c.in-Closed.is c.in_ok-kept.ensures.rises)
 
 -- a conflict of the full clauses is one of the clauses in force
 stuck_in_force : (s : StoreView) (given : List ℕ) (t : TrailView) (c : Clash) → IsWellFormed (problem_of s) → IsWithin s.vars given → IsStuck s given t c → Conflicts (in_force (problem_of s) given) given

@@ -3,7 +3,7 @@ use Rattle.std.specs.List.{All, Contains}
 use Rattle.std.proofs.lemmas.List.{take_all}
 use Rattle.gi_model.specs.State.{Scope, listed_in, scope_listed}
 use Rattle.gi_scopes.proofs.Covering.{there_none, there_more}
-use Rattle.gi_scopes.proofs.find.unlisted_after.Goals as goal
+use Rattle.gi_scopes.proofs.closed_trail.unlisted_after.Goals as goal
 
 pub loop-level-init : goal.loop-level-init
 loop-level-init c = there_none c.args.trail.now.lits
