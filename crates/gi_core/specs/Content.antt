@@ -14,4 +14,8 @@ content_of h = record { problem = problem_of h; known = known_of h; base = base_
 
 -- with nothing in it
 abbrev pub no_content : Content
-no_content = record { problem = empty_problem; known = []; base = record { vars = 0; plain = []; groups = []; active = []; freed = []; learnt = [] } }
+no_content = record {
+  problem = empty_problem;
+  known = [];
+  base = record { vars = 0; plain = []; groups = []; active = []; freed = []; learnt = [] };
+}

@@ -19,7 +19,8 @@ use Rattle.gi_core.specs.declared.machine.Machine.{Machine}
 -- the verdict of a slice after which so much is spent of a budget; none where the solve goes on
 abbrev pub verdict_of : Slice → ℕ → ℕ → ℕ → Option Verdict
 verdict_of slice.Braked mark spent budget = Some (verdict.Unknown (Stopped mark))
-verdict_of slice.Learned mark spent budget = if spent == budget then Some (verdict.Unknown (Budget budget)) else None
+verdict_of slice.Learned mark spent budget = if spent == budget
+    then Some (verdict.Unknown (Budget budget)) else None
 verdict_of (slice.Sat values) mark spent budget = Some (verdict.Sat values)
 verdict_of (slice.Unsat w) mark spent budget = Some (verdict.Unsat w)
 verdict_of slice.NoMemory mark spent budget = None
@@ -29,7 +30,8 @@ now_of None = Live
 now_of (Some v) = Ended v
 
 -- the news and what became of the solve are told, and nothing else changes but the solve
-pub record IsSettled (old : Machine) (run : Run) (news : List (List ℕ)) (v : Option Verdict) (told : List (List ℕ)) (now : Now) (new : Machine) : Type 0 where
+pub record IsSettled (old : Machine) (run : Run) (news : List (List ℕ)) (v : Option Verdict)
+    (told : List (List ℕ)) (now : Now) (new : Machine) : Type 0 where
   pub news_are : told ≡ news
   pub now_is : now ≡ now_of v
   pub state : state_of new ≡ record (state_of old) { solve = sliced (run_of run) (length news) now }

@@ -39,4 +39,5 @@ EndsActive active c = (0 < length c) × Contains active (slice_index c (length c
 
 -- no literal of an active guard stands before another's
 pub record AreGuardsLast (active c : List ℕ) : Type 0 where
-  pub before : (j k : ℕ) → j ≤ k → k < length c → ¬ Contains active (slice_index c k / 2) → ¬ Contains active (slice_index c j / 2)
+  pub before : (j k : ℕ) → j ≤ k → k < length c → ¬ Contains active (slice_index c k / 2)
+      → ¬ Contains active (slice_index c j / 2)

@@ -40,4 +40,5 @@ StepsTell = (es : List Entry) (s : State) → Runs opening es s → IsTold es s
 
 -- nothing names a guard that is handed out, the second time either
 abbrev pub StepsGiveCleanGuards : Type 0
-StepsGiveCleanGuards = (es : List Entry) (s t : State) (g : ℕ) → Runs opening es s → Step s NewGuard (reply.Guard g) t → IsClean t g
+StepsGiveCleanGuards = (es : List Entry) (s t : State) (g : ℕ) → Runs opening es s
+    → Step s NewGuard (reply.Guard g) t → IsClean t g

@@ -11,4 +11,5 @@ use Rattle.gi_core.specs.declared.machine.Machine.{Machine}
 
 -- an admitted load of any bytes that say the file
 abbrev pub TakesFile : Machine → Cnf → Reply → Machine → Type 0
-TakesFile old file answer new = (bytes : List ℕ) → IsCnf file bytes → fits (LoadCnf bytes) ≡ true → early (state_of old) (LoadCnf bytes) ≡ None → Moves old (LoadCnf bytes) answer new
+TakesFile old file answer new = (bytes : List ℕ) → IsCnf file bytes → fits (LoadCnf bytes) ≡ true
+    → early (state_of old) (LoadCnf bytes) ≡ None → Moves old (LoadCnf bytes) answer new

@@ -23,7 +23,8 @@ state_of m = record {
   life = life_of m.life;
 }
 
--- each literal that scopes list has its reasons, and the trail that they keep is built for the solver's clauses
+-- each literal that scopes list has its reasons, and the trail that they keep is built for the
+-- solver's clauses
 pub record IsBacked (c : Content) (o : Open) : Type 0 where
   pub reasoned : AreReasoned c.problem o
   pub served : IsFor o.kept o.scopes c.base

@@ -20,7 +20,12 @@ use std::alloc::AllocError;
 pub fn put(store: &mut Store, search: &mut Search, c: &[Lit]) -> Result<(), AllocError>
     requires joined { IsJoined search.old store.old }
     requires usable { some_unusable (problem_of store.old) c.now ≡ false }
-    ensures content { OnOk result (content_of store.new ≡ record (content_of store.old) { problem = with_clause c.now (problem_of store.old); base = base_of store.new }) }
+    ensures content { OnOk result
+        (content_of store.new ≡ record (content_of store.old) {
+          problem = with_clause c.now
+              (problem_of store.old);
+          base = base_of store.new;
+        }) }
     ensures joined { OnOk result (IsJoined search.new store.new) }
 {
     edits_keep_searches();
@@ -43,7 +48,12 @@ pub fn put_under(
     requires some { 0 < length guards.now }
     requires guards { All (Contains store.old.active) guards.now }
     requires usable { some_unusable (problem_of store.old) c.now ≡ false }
-    ensures content { OnOk result (content_of store.new ≡ record (content_of store.old) { problem = with_group guards.now c.now (problem_of store.old); base = base_of store.new }) }
+    ensures content { OnOk result
+        (content_of store.new ≡ record (content_of store.old) {
+          problem = with_group guards.now
+              c.now (problem_of store.old);
+          base = base_of store.new;
+        }) }
     ensures joined { OnOk result (IsJoined search.new store.new) }
 {
     edits_keep_searches();
@@ -55,8 +65,8 @@ pub fn put_under(
     Ok(())
 }
 
-/// Detaches each clause that goes with a guard: the groups that name it, and what was learnt about it. Reads of a group its guards alone, and no
-/// plain clause but the last one.
+/// Detaches each clause that goes with a guard: the groups that name it, and what was learnt about
+/// it. Reads of a group its guards alone, and no plain clause but the last one.
 pub fn detach_naming(store: &Store, search: &mut Search, g: Var)
     requires joined { IsJoined search.old store.now }
     requires guard { Contains store.now.active g }
@@ -70,7 +80,8 @@ pub fn detach_naming(store: &Store, search: &mut Search, g: Var)
 /// Detaches the learnt clauses that name a guard, the last one first.
 fn detach_learnt(store: &Store, search: &mut Search, g: Var)
     requires { IsJoined search.old store.now }
-    ensures { IsLeft search.old search.new (looked_at g (entries store.now) (length store.now.plain + length store.now.groups)) }
+    ensures { IsLeft search.old search.new
+        (looked_at g (entries store.now) (length store.now.plain + length store.now.groups)) }
 {
     store.is_whole();
     let first = store.problem();
@@ -85,10 +96,12 @@ fn detach_learnt(store: &Store, search: &mut Search, g: Var)
     }
 }
 
-/// Detaches the groups that name a guard, the last one first, up to the plain clauses, which name none.
+/// Detaches the groups that name a guard, the last one first, up to the plain clauses, which name
+/// none.
 fn detach_groups(store: &Store, search: &mut Search, g: Var)
     requires guard { Contains store.now.active g }
-    requires left { HasKeys search.old (looked_at g (entries store.now) (length store.now.plain + length store.now.groups)) }
+    requires left { HasKeys search.old
+        (looked_at g (entries store.now) (length store.now.plain + length store.now.groups)) }
     ensures attached { AreAttached search.new (keys_of (without_guard_of g store.now)) }
     ensures goes { (h : StoreView) → MatchesStore search.old h → MatchesStore search.new h }
 {
@@ -119,7 +132,8 @@ fn is_group(store: &Store, clause: &[Lit]) -> bool
     }
 }
 
-/// Whether a clause that ends with the literals of its guards names this one. Reads those, and the literal before them.
+/// Whether a clause that ends with the literals of its guards names this one. Reads those, and the
+/// literal before them.
 fn has_guard(store: &Store, clause: &[Lit], g: Var) -> bool
     requires guard { Contains store.now.active g }
     requires last { AreGuardsLast store.now.active clause.now }

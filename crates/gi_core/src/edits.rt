@@ -29,7 +29,8 @@ use std::sync::ledger::Blank;
 /// Puts assumptions behind the pending ones; their variables are there from then on.
 fn take_on(pending: &mut Lits, solver: &mut Solver, lits: &[Lit]) -> Result<(), AllocError>
     ensures pending { OnOk result (pending.new ≡ pending.old ++ lits.now) }
-    ensures solver { OnOk result (solver.new ≡ record solver.old { problem = grown (top lits.now) solver.old.problem }) }
+    ensures solver { OnOk result
+        (solver.new ≡ record solver.old { problem = grown (top lits.now) solver.old.problem }) }
 {
     append(pending, lits)?;
     solver.grow(top_variable(lits))
@@ -120,7 +121,8 @@ impl Machine {
         self.solve.forget();
         Reply::Done
     }
-    /// Answers a load that isn't refused before its payload is read: refuses it by its file or by the first fault, or takes the file.
+    /// Answers a load that isn't refused before its payload is read: refuses it by its file or by
+    /// the first fault, or takes the file.
     pub fn load(&mut self, bytes: &[u8]) -> Reply
         requires whole { IsMachine self.old }
         requires fits { fits (call.LoadCnf bytes.now) ≡ true }
@@ -129,7 +131,7 @@ impl Machine {
     {
         good_values();
         match read_cnf(self.alloc, bytes) {
-            CnfRead::Cnf(file) => self.take_file(&file),
+            CnfRead::Value(file) => self.take_file(&file),
             CnfRead::Fault(fault) => Reply::Refused(refusal_of_fault(fault)),
             CnfRead::NoMemory => self.die(),
         }

@@ -1,4 +1,5 @@
-//! Laws over what the steps of a new machine make, each the contract of a function that does nothing.
+//! Laws over what the steps of a new machine make, each the contract of a function that does
+//! nothing.
 
 ghost use Rattle.gi_core.specs.Laws.{StepsAreLegal, StepsKeep, StepsTell, StepsGiveCleanGuards};
 
@@ -14,7 +15,8 @@ pub fn steps_keep()
     ensures { StepsKeep }
 {}
 
-/// What is learnt is the news of all work in order, less what a start or a drop took away; and what a solve has spent is the number of its news.
+/// What is learnt is the news of all work in order, less what a start or a drop took away; and what
+/// a solve has spent is the number of its news.
 pub fn steps_tell()
     ensures { StepsTell }
 {

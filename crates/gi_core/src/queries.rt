@@ -83,7 +83,8 @@ impl Solver {
     /// Whether these clauses more would be too many, or have too many literals.
     pub fn lacks_room(&self, clauses: &[Clause]) -> bool
         requires { sum_by length clauses.now ≤ most_lits }
-        ensures { result ≡ (nat_lt most_clauses (clause_count self.now.problem + length clauses.now) || nat_lt most_lits (lit_count self.now.problem + sum_by length clauses.now)) }
+        ensures { result ≡ (nat_lt most_clauses (clause_count self.now.problem + length clauses.now)
+            || nat_lt most_lits (lit_count self.now.problem + sum_by length clauses.now)) }
     {
         self.lacks_clauses(clauses.len()) || self.lacks_lits(count_lits(clauses) as u128)
     }
@@ -110,7 +111,8 @@ impl Solver {
 
     /// Whether no guard is left to hand out.
     pub fn lacks_guard(&self) -> bool
-        ensures { result ≡ ((length self.now.problem.freed == 0) && nat_le max_var self.now.problem.vars) }
+        ensures { result ≡ ((length self.now.problem.freed == 0)
+            && nat_le max_var self.now.problem.vars) }
     {
         if self.vars() < MAX_VAR {
             return false;
@@ -132,7 +134,8 @@ impl Solver {
         self.store.known()
     }
 
-    /// The learnt clause at a place, from 1, the oldest first. None exactly where none stands there.
+    /// The learnt clause at a place, from 1, the oldest first. None exactly where none stands
+    /// there.
     pub fn known_at(&self, i: u64) -> Option<&[Lit]>
         ensures { option_copied result ≡ at_place self.now.known i }
     {

@@ -25,7 +25,8 @@ pub fn tested<L: Ledger>(scopes: &mut Scopes, store: &Store, assumed: Lits, blan
     requires kept { IsFor scopes.old.kept scopes.old.scopes (base_of store.now) }
     ensures answers { TellsTest (problem_of store.now) scopes.old.scopes assumed result }
     ensures opens { Opens scopes.old assumed result scopes.new }
-    ensures reasons { AreReasoned (problem_of store.now) scopes.old → AreReasoned (problem_of store.now) scopes.new }
+    ensures reasons { AreReasoned (problem_of store.now) scopes.old
+        → AreReasoned (problem_of store.now) scopes.new }
     ensures kept { IsFor scopes.new.kept scopes.new.scopes (base_of store.now) }
 {
     let mut steps = Steps::<L>::new(blank);

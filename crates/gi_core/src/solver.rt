@@ -19,8 +19,9 @@ use gi_store::{NewGuard, Store, edits_are_of_the_problem};
 use std::alloc::{AllocError, Global};
 use std::marker::Model;
 
-/// The clauses in their store, with the search that goes with them. Contracts see the problem, its clauses with their keys, and the learnt clauses. Where
-/// memory was wanting it is a new one, with nothing in it, so that the search goes with the store.
+/// The clauses in their store, with the search that goes with them. Contracts see the problem, its
+/// clauses with their keys, and the learnt clauses. Where memory was wanting it is a new one, with
+/// nothing in it, so that the search goes with the store.
 #[derive(Drop)]
 pub struct Solver {
     alloc: Global,
@@ -63,7 +64,11 @@ impl Solver {
     /// A plain clause more.
     pub fn add(&mut self, c: &[Lit]) -> Result<(), AllocError>
         requires { some_unusable self.old.problem c.now ≡ false }
-        ensures { OnOk result (self.new ≡ record self.old { problem = with_clause c.now self.old.problem; base = self.new.base }) }
+        ensures { OnOk result (self.new ≡ record self.old {
+          problem = with_clause c.now
+              self.old.problem;
+          base = self.new.base;
+        }) }
     {
         match put(&mut self.store, &mut self.search, c) {
             Ok(()) => Ok(()),
@@ -79,7 +84,11 @@ impl Solver {
         requires vars { vars ≤ max_var }
         requires whole { IsWellFormed self.old.problem }
         requires usable { list_any (some_unusable self.old.problem) clauses.now ≡ false }
-        ensures { OnOk result (self.new ≡ record self.old { problem = with_clauses clauses.now (grown vars self.old.problem); base = self.new.base }) }
+        ensures { OnOk result (self.new ≡ record self.old {
+          problem = with_clauses clauses.now
+              (grown vars self.old.problem);
+          base = self.new.base;
+        }) }
     {
         self.grow(vars)?;
         for clause in clauses {
@@ -93,7 +102,11 @@ impl Solver {
         requires some { 0 < length guards.now }
         requires guards { All (Contains self.old.problem.active) guards.now }
         requires usable { some_unusable self.old.problem c.now ≡ false }
-        ensures { OnOk result (self.new ≡ record self.old { problem = with_group guards.now c.now self.old.problem; base = self.new.base }) }
+        ensures { OnOk result (self.new ≡ record self.old {
+          problem = with_group guards.now c.now
+              self.old.problem;
+          base = self.new.base;
+        }) }
     {
         match put_under(&mut self.store, &mut self.search, guards, c) {
             Ok(()) => Ok(()),
@@ -108,7 +121,8 @@ impl Solver {
     pub fn new_guard(&mut self) -> Result<Var, AllocError>
         requires { self.old.problem.freed ≡ [] → self.old.problem.vars < max_var }
         ensures guard { IfOk result (λ g. g ≡ next_guard self.old.problem) }
-        ensures made { OnOk result (self.new ≡ record self.old { problem = with_guard self.old.problem }) }
+        ensures made { OnOk result
+            (self.new ≡ record self.old { problem = with_guard self.old.problem }) }
     {
         edits_keep_searches();
         edits_are_of_the_problem();
@@ -122,7 +136,11 @@ impl Solver {
     /// Drops an active guard, with its clauses and what was learnt about it. Takes no memory.
     pub fn remove_guard(&mut self, g: Var)
         requires { Contains self.old.problem.active g }
-        ensures { self.new ≡ record { problem = without_guard g self.old.problem; known = without_var g self.old.known; base = self.new.base } }
+        ensures { self.new ≡ record {
+          problem = without_guard g self.old.problem;
+          known = without_var g self.old.known;
+          base = self.new.base;
+        } }
     {
         edits_keep_searches();
         edits_are_of_the_problem();
@@ -141,7 +159,10 @@ impl Solver {
 
     /// The oldest half of the learnt clauses goes.
     fn forget_oldest(&mut self)
-        ensures { self.new ≡ record self.old { known = drop (length self.old.known / 2) self.old.known } }
+        ensures { self.new ≡ record self.old {
+          known = drop (length self.old.known / 2)
+              self.old.known;
+        } }
     {
         edits_keep_searches();
         edits_are_of_the_problem();
@@ -161,7 +182,8 @@ impl Solver {
         requires assumed { IsWithin self.old.problem.vars assumed.now }
         requires known { AreUsable self.old }
         requires new_brake { (B.top brake.old ≡ 0) × (B.asks brake.old ≡ 0) }
-        ensures advances { Advances self.old self.new assumed.now limit serial result.mark result.news result.end }
+        ensures advances { Advances self.old self.new assumed.now limit serial result.mark
+            result.news result.end }
         ensures mark { result.mark ≡ B.top brake.new }
         ensures follows { B.follows brake.old brake.new }
         ensures asks { result.end ≢ NoMemory → length result.news < B.asks brake.new }

@@ -46,17 +46,18 @@ impl Core {
         self.machine.phase()
     }
 
-    /// That the state keeps the invariant of all legal histories: what was learnt is implied by the problem, what scopes list are consequences, no
-    /// limit is passed, and the rest of its record.
+    /// That the state keeps the invariant of all legal histories: what was learnt is implied by the
+    /// problem, what scopes list are consequences, no limit is passed, and the rest of its record.
     pub fn is_kept(&self)
         ensures { IsKept self.now }
     {
         let _ = &self.machine;
     }
 
-    /// Answers a call that fits; a wait only where no solve is running. The answer is the refusal that the table names, which changes nothing, or
-    /// else an answer to the call, or want of memory, which leaves a new machine that is dead. A file is loaded whole, or nothing of it is; it is read
-    /// first, so want of memory may come in the place of a refusal of what it says.
+    /// Answers a call that fits; a wait only where no solve is running. The answer is the refusal
+    /// that the table names, which changes nothing, or else an answer to the call, or want of
+    /// memory, which leaves a new machine that is dead. A file is loaded whole, or nothing of it
+    /// is; it is read first, so want of memory may come in the place of a refusal of what it says.
     pub fn step(&mut self, call: &Call) -> Reply
         requires fits { fits call.now ≡ true }
         requires wait { call.now ≡ Call.Wait → phase_of self.old ≢ Phase.Live }
@@ -69,8 +70,9 @@ impl Core {
         }
     }
 
-    /// A slice of work on the running solve, with a brake that wasn't asked yet; `Idle` exactly where none is running. The slice learns no more clauses
-    /// than 32 times the Luby number of its place in the solve, than 1,024, and than what is left of the budget.
+    /// A slice of work on the running solve, with a brake that wasn't asked yet; `Idle` exactly
+    /// where none is running. The slice learns no more clauses than 32 times the Luby number of its
+    /// place in the solve, than 1,024, and than what is left of the budget.
     pub fn work<B: Brake>(&mut self, brake: &mut B) -> Work
         requires { (B.top brake.old ≡ 0) × (B.asks brake.old ≡ 0) }
         ensures step { Step self.old (Call.Work result.mark) result.reply self.new }

@@ -26,8 +26,8 @@ pub struct Work {
     pub reply: Reply,
 }
 
-/// How many clauses the next slice may learn: 32 times the Luby number of its place among the slices of its solve, at most 1,024, and at most what
-/// is left of the budget.
+/// How many clauses the next slice may learn: 32 times the Luby number of its place among the
+/// slices of its solve, at most 1,024, and at most what is left of the budget.
 fn slice_limit(slices: u32, left: u32) -> u32
     requires { 1 ≤ left }
     ensures low { 1 ≤ result }
@@ -44,7 +44,8 @@ fn slice_limit(slices: u32, left: u32) -> u32
     wanted.min(left)
 }
 
-/// How a slice leaves its solve: with a verdict, or running. The solve has learnt so many clauses by now.
+/// How a slice leaves its solve: with a verdict, or running. The solve has learnt so many clauses
+/// by now.
 fn verdict_of(end: Slice, mark: u64, spent: u32, budget: u32) -> Option<Verdict>
     ensures { result ≡ verdict_of end mark spent budget }
 {
@@ -113,7 +114,8 @@ impl Machine {
         requires whole { IsMachine (record self.old { solve = Solve.Running run }) }
         requires alive { self.old.life ≡ Life.Alive }
         requires new_brake { (B.top brake.old ≡ 0) × (B.asks brake.old ≡ 0) }
-        ensures moves { Moves (record self.old { solve = Solve.Running run }) (call.Work result.mark) result.reply self.new }
+        ensures moves { Moves (record self.old { solve = Solve.Running run })
+            (call.Work result.mark) result.reply self.new }
         ensures mark { result.mark ≡ B.top brake.new }
         ensures follows { B.follows brake.old brake.new }
         ensures asks { IsNews (B.asks brake.new) result.reply }
@@ -139,7 +141,8 @@ impl Machine {
         requires budget { run.spent + length news ≤ run.budget }
         requires found { end ≢ Slice.NoMemory }
         requires some { end ≡ Slice.Learned → 1 ≤ length news }
-        ensures { Settles self.old run news (verdict_of end mark (run.spent + length news) run.budget) result self.new }
+        ensures { Settles self.old run news
+            (verdict_of end mark (run.spent + length news) run.budget) result self.new }
     {
         let count = news.len() as u32;
         match verdict_of(end, mark, run.spent + count, run.budget) {
