@@ -8,7 +8,8 @@ use Rattle.gi_turn.specs.declared.view.Entry.{Entry}
 abbrev pub At : {A : Type 0} → List A → ℕ → A → Type 0
 At xs i x = get_elem? xs i ≡ some x
 
--- what one call adds: its seat's number, the phase that it leaves, the mark that it carries, and what it tells
+-- what one call adds: its seat's number, the phase that it leaves, the mark that it carries, and
+-- what it tells
 abbrev pub entry_of : ℕ → ℕ → ℕ → List (List ℕ) → Entry
 entry_of by phase mark told = record { by = by; phase = phase; mark = mark; told = told }
 

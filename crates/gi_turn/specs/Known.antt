@@ -28,7 +28,8 @@ pub record Known : Type 0 where
 
 -- for a `Model` whose value is `Known`
 abbrev pub known_coded : Coded Known
-known_coded = coded_via (coded× table_id_coded the_row.coded) (λ (k : Known). (k.place, k.view)) (λ x y e i. record { place = (e i).0; view = (e i).1 })
+known_coded = coded_via (coded× table_id_coded the_row.coded) (λ (k : Known). (k.place, k.view))
+    (λ x y e i. record { place = (e i).0; view = (e i).1 })
 
 -- what the seat shows
 abbrev pub known : {T : Type 0} → Seat T → Known

@@ -10,8 +10,10 @@ use Rattle.gi_turn.specs.Turns.{Turns}
 use Rattle.gi_turn.specs.Numbers.{Numbers, Kinship}
 use Rattle.gi_turn.specs.Marks.{Marks}
 
--- There is one history. The words are the tickets drawn, the history's length with its phase, and the greatest mark asked; the tickets drawn and the calls left make 2 ^ 56.
-pub record Rule {T : Type 0} (stands : T → List Entry → Type 0) (may : List Entry → ℕ → Type 0) (first : ℕ) (s : State (Option T) View) : Type 0 where
+-- There is one history. The words are the tickets drawn, the history's length with its phase, and
+-- the greatest mark asked; the tickets drawn and the calls left make 2 ^ 56.
+pub record Rule {T : Type 0} (stands : T → List Entry → Type 0) (may : List Entry → ℕ → Type 0)
+    (first : ℕ) (s : State (Option T) View) : Type 0 where
   pub ticket : ℕ
   pub stop : ℕ
   pub log : List Entry

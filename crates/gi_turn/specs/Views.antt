@@ -7,11 +7,45 @@ use Rattle.gi_turn.specs.Numbers.{child, OwnIn}
 
 -- the first seat of a turnstile that begins with this phase
 abbrev pub first_view : ℕ → View
-first_view first = record { opened = first; spent = false; number = 0; splits = 0; held = 0 ∷ []; kin = []; left = 2 ^ 56; ticket = None; turn = false; seen = []; merged = []; glances = []; asked = []; marks = []; fresh = []; sees = 0 }
+first_view first = record {
+  opened = first;
+  spent = false;
+  number = 0;
+  splits = 0;
+  held = 0 ∷ [];
+  kin = [];
+  left = 2 ^ 56;
+  ticket = None;
+  turn = false;
+  seen = [];
+  merged = [];
+  glances = [];
+  asked = [];
+  marks = [];
+  fresh = [];
+  sees = 0;
+}
 
 -- what is left of a seat that was joined to another
 abbrev pub spent_view : View
-spent_view = record { opened = 0; spent = true; number = 0; splits = 0; held = []; kin = []; left = 0; ticket = None; turn = false; seen = []; merged = []; glances = []; asked = []; marks = []; fresh = []; sees = 0 }
+spent_view = record {
+  opened = 0;
+  spent = true;
+  number = 0;
+  splits = 0;
+  held = [];
+  kin = [];
+  left = 0;
+  ticket = None;
+  turn = false;
+  seen = [];
+  merged = [];
+  glances = [];
+  asked = [];
+  marks = [];
+  fresh = [];
+  sees = 0;
+}
 
 -- the seat has drawn the ticket k
 abbrev pub after_draw : View → ℕ → View
@@ -39,19 +73,44 @@ after_ask v mark = record v { asked = v.asked ++ (mark, length v.seen) ∷ [] }
 
 -- the seat has seen the mark
 abbrev pub after_see : View → ℕ → View
-after_see v mark = record v { marks = v.marks ++ mark ∷ []; fresh = v.fresh ++ mark ∷ []; sees = v.sees + 1 }
+after_see v mark = record v {
+  marks = v.marks ++ mark ∷ [];
+  fresh = v.fresh ++ mark ∷ [];
+  sees = v.sees + 1;
+}
 
 -- the seat has split another off
 abbrev pub after_split : View → View
-after_split v = record v { left = v.left - v.left / 2; splits = v.splits + 1; kin = child v.number v.splits ∷ v.kin }
+after_split v = record v {
+  left = v.left - v.left / 2;
+  splits = v.splits + 1;
+  kin = child v.number v.splits ∷ v.kin;
+}
 
 -- the seat that was split off
 abbrev pub split_off : View → View
-split_off v = record v { left = v.left / 2; splits = 0; number = child v.number v.splits; held = child v.number v.splits ∷ []; kin = []; merged = []; asked = []; fresh = [] }
+split_off v = record v {
+  left = v.left / 2;
+  splits = 0;
+  number = child v.number v.splits;
+  held = child v.number v.splits ∷ [];
+  kin = [];
+  merged = [];
+  asked = [];
+  fresh = [];
+}
 
 -- the seat has taken the other in, and has not yet read that both histories are beginnings of one
 abbrev pub after_join : View → View → View
-after_join v w = record v { left = v.left + w.left; seen = longer_of v.seen w.seen; held = v.held ++ w.held; kin = v.kin ++ w.kin; asked = v.asked ++ w.asked; marks = v.marks ++ w.marks; merged = (v.held, v.seen) ∷ (w.held, w.seen) ∷ [] }
+after_join v w = record v {
+  left = v.left + w.left;
+  seen = longer_of v.seen w.seen;
+  held = v.held ++ w.held;
+  kin = v.kin ++ w.kin;
+  asked = v.asked ++ w.asked;
+  marks = v.marks ++ w.marks;
+  merged = (v.held, v.seen) ∷ (w.held, w.seen) ∷ [];
+}
 
 -- the seat has read it
 abbrev pub after_settle : View → View
@@ -76,7 +135,8 @@ Sole v = Contains v.held 0 × ((n : ℕ) → Contains v.kin n → Contains v.hel
 
 -- a glance at a length that the seat's history has reached names the phase after so many entries
 abbrev pub KnowsPhases : View → Type 0
-KnowsPhases v = All (λ g. g.0 ≤ length v.seen → g.1 ≡ phase_after v.opened (take g.0 v.seen)) v.glances
+KnowsPhases v = All (λ g. g.0 ≤ length v.seen → g.1 ≡ phase_after v.opened (take g.0 v.seen))
+    v.glances
 
 -- the entries of the history whose numbers the seat holds are those that it has seen
 abbrev pub OwnSeen : View → List Entry → Type 0
@@ -84,17 +144,20 @@ OwnSeen v = OwnIn v.held (length v.seen)
 
 -- each mark of the history could be asked over what came before it
 abbrev pub IsLawful : (List Entry → ℕ → Type 0) → List Entry → Type 0
-IsLawful may log = (k : ℕ) (e : Entry) → At log k e → e.mark ≢ 0 → (l : ℕ) × (l ≤ k) × may (take l log) e.mark
+IsLawful may log = (k : ℕ) (e : Entry) → At log k e → e.mark ≢ 0
+    → (l : ℕ) × (l ≤ k) × may (take l log) e.mark
 
 -- each mark of the history was asked by the seat, over what came before it
 abbrev pub AskedBy : View → List Entry → Type 0
-AskedBy v log = (k : ℕ) (e : Entry) → At log k e → e.mark ≢ 0 → (l : ℕ) × (l ≤ k) × Contains v.asked (e.mark, l)
+AskedBy v log = (k : ℕ) (e : Entry) → At log k e → e.mark ≢ 0
+    → (l : ℕ) × (l ≤ k) × Contains v.asked (e.mark, l)
 
 -- each entry of the history has a number that the seat holds
 abbrev pub HoldsAll : View → List Entry → Type 0
 HoldsAll v log = (k : ℕ) (e : Entry) → At log k e → Contains v.held e.by
 
--- each mark of the seat's history had its cause, and where the seat is sole it has asked it, and holds the numbers of all entries
+-- each mark of the seat's history had its cause, and where the seat is sole it has asked it, and
+-- holds the numbers of all entries
 abbrev pub KnowsMarks : (List Entry → ℕ → Type 0) → View → Type 0
 KnowsMarks may v = IsLawful may v.seen × (Sole v → AskedBy v v.seen) × (Sole v → HoldsAll v v.seen)
 

@@ -15,7 +15,8 @@ use std::sync::Wait;
 impl<T: Stands> Turnstile<T> {
     ghost use Rattle.gi_turn.specs.Seats.{view_of, IsOf};
 
-    // Looks, and sleeps between looks, until the history is as long as the ticket. The slot comes with the turn.
+    // Looks, and sleeps between looks, until the history is as long as the ticket. The slot comes
+    // with the turn.
     fn wait_turn<R: Wait>(&self, rt: &R, chair: &mut Chair<T>, ticket: u64)
         requires table { chair.old.table_id ≡ self.now.table.shared.table_id }
         requires ticket { chair.old.me.0.ticket ≡ Some ticket }
@@ -51,8 +52,9 @@ impl<T: Stands> Turnstile<T> {
         (ticket, value)
     }
 
-    /// Waits for the turn, and takes the value out. It stands for the whole history, which begins with what the seat had seen.
-    /// The seat has a call left and no turn before, and a call less and the turn after.
+    /// Waits for the turn, and takes the value out. It stands for the whole history, which begins
+    /// with what the seat had seen. The seat has a call left and no turn before, and a call less
+    /// and the turn after.
     pub fn enter<R: Wait>(&self, rt: &R, seat: &mut Seat<T>) -> T
         requires of { IsOf self.now seat.old }
         requires idle { (view_of seat.old).turn ≡ false }
@@ -63,7 +65,8 @@ impl<T: Stands> Turnstile<T> {
         ensures stands { T.stands result (view_of seat.new).seen }
         ensures phases { KnowsPhases (view_of seat.new) }
         ensures marks { KnowsMarks T.may_ask (view_of seat.new) }
-        ensures entered { HasEntered T.stands T.may_ask (view_of seat.old) result (view_of seat.new) }
+        ensures entered { HasEntered T.stands T.may_ask (view_of seat.old) result
+            (view_of seat.new) }
     {
         let (ticket, value) = self.draw_and_wait(rt, &mut seat.chair);
         seat.ticket = ticket;
@@ -71,7 +74,8 @@ impl<T: Stands> Turnstile<T> {
         value
     }
 
-    // The one event of a turn: the history has the entry from here on, and the slot is given back with the value in it.
+    // The one event of a turn: the history has the entry from here on, and the slot is given back
+    // with the value in it.
     fn publish<E: Entered, N: Adds>(&self, chair: &mut Chair<T>, ticket: u64, entry: &E, phase: u8)
         requires table { chair.old.table_id ≡ self.now.table.shared.table_id }
         requires adds { N.entry
@@ -118,13 +122,15 @@ impl<T: Stands> Turnstile<T> {
         self.table.shared.wake_all(HEAD);
     }
 
-    /// Ends the turn: puts the value back, which stands for the history with the entry added, and publishes the entry with this phase, below 8.
-    /// The entry's mark is 0, or the seat saw it in this turn.
+    /// Ends the turn: puts the value back, which stands for the history with the entry added, and
+    /// publishes the entry with this phase, below 8. The entry's mark is 0, or the seat saw it in
+    /// this turn.
     pub fn leave<E: Entered>(&self, seat: &mut Seat<T>, value: T, entry: &E, phase: u8)
         requires of { IsOf self.now seat.old }
         requires turn { (view_of seat.old).turn ≡ true }
         requires phase { phase < 8 }
-        requires mark { E.mark entry.now ≢ 0 → Contains (view_of seat.old).fresh (E.mark entry.now) }
+        requires mark { E.mark entry.now ≢ 0
+            → Contains (view_of seat.old).fresh (E.mark entry.now) }
         requires stands { T.stands value ((view_of seat.old).seen
             ++ entry_of (view_of seat.old).number phase (E.mark entry.now) (E.told entry.now) ∷ []) }
         ensures of { IsOf self.now seat.new }

@@ -9,7 +9,8 @@ ghost use Rattle.gi_turn.specs.Views.{Sole, HoldsAsBefore, after_split, split_of
 
 use crate::stands::Stands;
 
-/// Where one seat is sole, no other seat of the turnstile holds any number, and the sole one has seen the whole history.
+/// Where one seat is sole, no other seat of the turnstile holds any number, and the sole one has
+/// seen the whole history.
 pub fn sole_is_alone<T: Stands>()
     ensures alone { (first : ℕ) (s : State (Option T) View) (i : ℕ) (v : View)
         → Rule T.stands T.may_ask first s → At s.views i v → Sole v
@@ -18,7 +19,8 @@ pub fn sole_is_alone<T: Stands>()
         (rule : Rule T.stands T.may_ask first s) → At s.views i v → Sole v → v.seen ≡ rule.log }
 {}
 
-/// The numbers of seats that are split off differ, and each is greater than that of the seat that it was split off.
+/// The numbers of seats that are split off differ, and each is greater than that of the seat that
+/// it was split off.
 pub fn numbers_differ()
     ensures differ { (n c m d : ℕ) → child n c ≡ child m d → (n ≡ m) × (c ≡ d) }
     ensures grow { (n c : ℕ) → n < child n c }

@@ -78,7 +78,8 @@ impl Join<View> for Halves {
     ghost spent = { spent_view };
 }
 
-/// A load of TICKET right after a join, by which the seat learns that both histories are beginnings of one.
+/// A load of TICKET right after a join, by which the seat learns that both histories are beginnings
+/// of one.
 pub(crate) struct Settle;
 
 impl<T: Stands> Play<Option<T>, View> for Settle {

@@ -5,8 +5,8 @@ use crate::view::View;
 
 pub(crate) type Chair<T> = atomic_table::Seat<Option<T>, View>;
 
-/// A caller's place at one turnstile. Contracts see what it knows by `view_of`.
-/// The calls of a seat that is dropped are lost. Where it has the turn then, nobody comes to another.
+/// A caller's place at one turnstile. Contracts see what it knows by `view_of`. The calls of a seat
+/// that is dropped are lost. Where it has the turn then, nobody comes to another.
 #[derive(Drop)]
 pub struct Seat<T> {
     pub(crate) chair: Chair<T>,

@@ -24,7 +24,8 @@ pub struct Turnstile<T: Stands> {
 impl<T: Stands> Turnstile<T> {
     ghost use Rattle.gi_turn.specs.Seats.{view_of, IsOf};
 
-    /// A turnstile round the value, with an empty history and this phase, below 8, and its first seat, which has 2^56 calls left.
+    /// A turnstile round the value, with an empty history and this phase, below 8, and its first
+    /// seat, which has 2^56 calls left.
     /// `AllocError` comes only where memory ran out, and the value is dropped then.
     pub fn open(alloc: Global, value: T, phase: u8) -> Result<(Turnstile<T>, Seat<T>), AllocError>
     where
@@ -53,7 +54,8 @@ impl<T: Stands> Turnstile<T> {
         }
     }
 
-    /// The length of the history now, which is no less than the seat has seen, and its phase, below 8.
+    /// The length of the history now, which is no less than the seat has seen, and its phase, below
+    /// 8.
     pub fn glance(&self, seat: &mut Seat<T>) -> (u64, u8)
         requires of { IsOf self.now seat.old }
         ensures of { IsOf self.now seat.new }
@@ -77,7 +79,8 @@ impl<T: Stands> Turnstile<T> {
             .fetch_max::<Ask>(&mut seat.chair, STOP, mark);
     }
 
-    /// The greatest mark that was asked, which is no less than any that the seat asked. 0: none was.
+    /// The greatest mark that was asked, which is no less than any that the seat asked. 0: none
+    /// was.
     pub fn see(&self, seat: &mut Seat<T>) -> u64
         requires of { IsOf self.now seat.old }
         ensures of { IsOf self.now seat.new }
@@ -105,8 +108,9 @@ impl<T: Stands> Turnstile<T> {
         }
     }
 
-    /// Takes the other seat in: the calls left add up, and the longer history stays, which begins with the shorter one.
-    /// It has no entry of a number that one of the two held, beyond what that one had seen.
+    /// Takes the other seat in: the calls left add up, and the longer history stays, which begins
+    /// with the shorter one. It has no entry of a number that one of the two held, beyond what that
+    /// one had seen.
     pub fn join(&self, into: &mut Seat<T>, other: Seat<T>)
         requires of { IsOf self.now into.old × IsOf self.now other }
         requires idle { ((view_of into.old).turn ≡ false) × ((view_of other).turn ≡ false) }
@@ -127,7 +131,8 @@ impl<T: Stands> Turnstile<T> {
         self.table
             .shared
             .join_seat::<Halves>(&mut into.chair, chair);
-        // By this load the seat learns that the sum is in range, and that both histories are beginnings of one.
+        // By this load the seat learns that the sum is in range, and that both histories are
+        // beginnings of one.
         self.table.shared.load::<Settle>(&mut into.chair, TICKET);
         into.left += left;
     }
