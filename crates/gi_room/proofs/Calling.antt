@@ -16,7 +16,6 @@ use Rattle.gi_model.proofs.Entering.{never_spent}
 use Rattle.gi_model.specs.Refusals.{is_work}
 use Rattle.gi_room.specs.Entries.{all_own_of, own_of}
 use Rattle.gi_room.specs.Seen.{Seen}
-use Rattle.gi_room.specs.Histories.{mark_of}
 use Rattle.gi_room.specs.Calls.{HoldsAsBefore, Adds, Heeds, looks_of, all_looks, Waits, IsOwnWork, InCall, Called, Calls}
 
 -- the last entry of a legal history was allowed

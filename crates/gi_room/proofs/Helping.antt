@@ -13,7 +13,7 @@ use Rattle.gi_room.specs.Entries.{all_own_of}
 use Rattle.gi_room.specs.Seen.{Seen}
 use Rattle.gi_room.specs.Histories.{mark_of}
 use Rattle.gi_room.specs.Calls.{HoldsAsBefore, Heeds, looks_of, all_looks, Works, Helps, IsHelp, OnlyHelps, HelpEnds, glanced, is_over}
-use Rattle.gi_room.proofs.Calling.{holds_none, holds_both, own_count, own_looks}
+use Rattle.gi_room.proofs.Calling.{holds_both, own_count, own_looks}
 
 pub helps_none : (p q : Seen) → q.history ≡ p.history → q.left ≡ p.left → q.sees ≡ p.sees → HoldsAsBefore p q → OnlyHelps p q
 helps_none p q same left sees holds = record {

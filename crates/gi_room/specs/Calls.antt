@@ -1,5 +1,5 @@
 -- What a call does to a pass.
-use Rattle.std.specs.Prelude.{◌≡◌, ◌≢◌, ℕ, ◌+◌, ◌-◌, ◌/◌, ◌<◌, ◌≤◌, ◌⊎◌, Bool, true, false, List, [], ◌∷◌, ◌++◌, length, take, All, Contains, Some, slice_get}
+use Rattle.std.specs.Prelude.{◌≡◌, ◌≢◌, ℕ, ◌+◌, ◌-◌, ◌/◌, ◌≤◌, ◌⊎◌, Bool, true, false, List, [], ◌∷◌, ◌++◌, length, take, All, Contains, Some, slice_get}
 use Rattle.std.specs.List.{sum_by}
 use Rattle.gi_model.specs.State.{State, opening, phase_of}
 use Rattle.gi_model.specs.History.{Entry, IsLegal, after_all, takes_memory}
@@ -28,7 +28,8 @@ KnowsPhases p = All (λ g. g.0 ≤ length p.history → Names p.history g) p.gla
 abbrev pub HasReached : Seen → Type 0
 HasReached p = All (λ g. (g.0 ≤ length p.history) × Names p.history g) p.glances
 
--- the pass holds the first number, and each that was split off by the passes that it took in: so no other pass holds any
+-- the pass holds the first number, and each that was split off by the passes that it took in: so no
+-- other pass holds any
 abbrev pub Sole : Seen → Type 0
 Sole p = Contains p.held 0 × ((n : ℕ) → Contains p.kin n → Contains p.held n)
 
@@ -47,7 +48,8 @@ pub record Adds (what : Call) (answer : Reply) (old new : Seen) : Type 0 where
   pub foreign : All (λ e. ¬ Contains old.held e.by) others
   pub no_own : all_own_of old.number others ≡ []
   pub alone : Sole old → others ≡ []
-  pub history : new.history ≡ old.history ++ (others ++ record { by = old.number; call = what; reply = answer } ∷ [])
+  pub history : new.history
+      ≡ old.history ++ (others ++ record { by = old.number; call = what; reply = answer } ∷ [])
   pub legal : IsLegal new.history
   pub left : old.left ≡ new.left + 1
   pub holds : HoldsAsBefore old new
@@ -116,7 +118,8 @@ pub record InCall (what : Call) (old now : Seen) : Type 0 where
 pub record Called (what : Call) (answer : Reply) (old new : Seen) : Type 0 where
   pub before : List Entry
   pub comes : ComesBefore what old before
-  pub history : new.history ≡ old.history ++ (before ++ record { by = old.number; call = what; reply = answer } ∷ [])
+  pub history : new.history
+      ≡ old.history ++ (before ++ record { by = old.number; call = what; reply = answer } ∷ [])
   pub legal : IsLegal new.history
   pub left : old.left ≡ new.left + length (all_own_of old.number before) + 1
   pub looks : old.sees + all_looks (all_own_of old.number before) ≤ new.sees
@@ -141,10 +144,21 @@ after_ask p serial = record p { asked = p.asked ++ (serial, length p.history) �
 
 -- what a pass keeps and what it gives at a split
 abbrev pub split_left : Seen → Seen
-split_left p = record p { left = p.left - p.left / 2; splits = p.splits + 1; kin = child p.number p.splits ∷ p.kin }
+split_left p = record p {
+  left = p.left - p.left / 2;
+  splits = p.splits + 1;
+  kin = child p.number p.splits ∷ p.kin;
+}
 
 abbrev pub split_right : Seen → Seen
-split_right p = record p { left = p.left / 2; splits = 0; number = child p.number p.splits; held = child p.number p.splits ∷ []; kin = []; asked = [] }
+split_right p = record p {
+  left = p.left / 2;
+  splits = 0;
+  number = child p.number p.splits;
+  held = child p.number p.splits ∷ [];
+  kin = [];
+  asked = [];
+}
 
 -- the history is as long as before, or longer, by entries of no number that was held
 pub record HasGrown (old new : Seen) : Type 0 where
@@ -165,16 +179,21 @@ pub record Joins (old other new : Seen) : Type 0 where
   pub grown : HasGrown old new
   pub grown_other : HasGrown other new
 
--- why there are marks in a history: each could be asked over what came before it; where the pass is sole it has asked it, and holds the numbers of all entries
+-- why there are marks in a history: each could be asked over what came before it; where the pass is
+-- sole it has asked it, and holds the numbers of all entries
 pub record HasCauses (p : Seen) : Type 0 where
-  pub lawful : (k : ℕ) (e : Entry) → slice_get p.history k ≡ Some e → mark_of e.call ≢ 0 → (l : ℕ) × (l ≤ k) × IsStarted (take l p.history) (mark_of e.call)
-  pub sole : Sole p → (k : ℕ) (e : Entry) → slice_get p.history k ≡ Some e → mark_of e.call ≢ 0 → (l : ℕ) × (l ≤ k) × Contains p.asked (mark_of e.call, l)
+  pub lawful : (k : ℕ) (e : Entry) → slice_get p.history k ≡ Some e → mark_of e.call ≢ 0
+      → (l : ℕ) × (l ≤ k) × IsStarted (take l p.history) (mark_of e.call)
+  pub sole : Sole p → (k : ℕ) (e : Entry) → slice_get p.history k ≡ Some e → mark_of e.call ≢ 0
+      → (l : ℕ) × (l ≤ k) × Contains p.asked (mark_of e.call, l)
   pub whole : Sole p → All (λ e. Contains p.held e.by) p.history
 
--- each solve of the history is short: from its start on, while no edit is accepted and no other solve is started, it learnt at most 3^n clauses over its n variables
+-- each solve of the history is short: from its start on, while no edit is accepted and no other
+-- solve is started, it learnt at most 3^n clauses over its n variables
 abbrev pub SolvesAreShort : List Entry → Type 0
 SolvesAreShort history = (es more : List Entry) (by budget serial : ℕ)
-    → history ≡ es ++ record { by = by; call = call.Solve budget; reply = reply.Started serial } ∷ more → All IsQuiet more → All StartsNone more
+    → history ≡ es ++ record { by = by; call = call.Solve budget; reply = reply.Started serial }
+    ∷ more → All IsQuiet more → All StartsNone more
     → IsShort (after_all opening es).problem.vars budget more (after_all opening history)
 
 -- the history has grown by others' entries and own work alone
@@ -203,9 +222,11 @@ pub record SawEnd (p : Seen) : Type 0 where
 abbrev pub HelpEnds : Seen → Type 0
 HelpEnds p = (p.left ≡ 0) ⊎ SawEnd p
 
--- The pass holds the first number, and each that was split off but for these, which other passes hold.
+-- The pass holds the first number, and each that was split off but for these, which other passes
+-- hold.
 abbrev pub SoleBut : Seen → List ℕ → Type 0
-SoleBut p out = Contains p.held 0 × ((n : ℕ) → Contains p.kin n → Contains p.held n ⊎ Contains out n)
+SoleBut p out = Contains p.held 0
+    × ((n : ℕ) → Contains p.kin n → Contains p.held n ⊎ Contains out n)
 
 -- all that was split off the pass came back to it
 abbrev pub IsClosed : Seen → Type 0
@@ -213,11 +234,13 @@ IsClosed p = (n : ℕ) → Contains p.kin n → Contains p.held n
 
 -- the numbers that a pass has split off, and what it does otherwise keep
 abbrev pub SplitsAreCounted : Type 0
-SplitsAreCounted = (p : Seen) (out : List ℕ) → SoleBut p out → SoleBut (split_left p) (child p.number p.splits ∷ out)
+SplitsAreCounted = (p : Seen) (out : List ℕ) → SoleBut p out
+    → SoleBut (split_left p) (child p.number p.splits ∷ out)
 
 -- the last that is out comes back
 abbrev pub JoinsAreCounted : Type 0
-JoinsAreCounted = (p q r : Seen) (n : ℕ) (out : List ℕ) → SoleBut p (n ∷ out) → IsClosed q → Contains q.held n → Joins p q r → SoleBut r out
+JoinsAreCounted = (p q r : Seen) (n : ℕ) (out : List ℕ) → SoleBut p (n ∷ out) → IsClosed q
+    → Contains q.held n → Joins p q r → SoleBut r out
 
 abbrev pub NoneIsOut : Type 0
 NoneIsOut = (p : Seen) → SoleBut p [] → Sole p

@@ -10,8 +10,10 @@ use Rattle.gi_turn.specs.Known.{Place}
 use Rattle.gi_turn.specs.Views.{KnowsPhases, KnowsMarks}
 use Rattle.gi_room.specs.Histories.{AreTurns, IsStarted, history_in}
 
--- Its room and its number there, the history that it has seen, how many entries it may still make, the numbers that it holds and those that were split
--- off it, how often it has split, the marks that it asked with the lengths of history that it had seen, what it glanced at, and how often it looked for a mark.
+-- Its room and its number there, the history that it has seen, how many entries it may still make,
+-- the numbers that it holds and those that were split off it, how often it has split, the marks
+-- that it asked with the lengths of history that it had seen, what it glanced at, and how often it
+-- looked for a mark.
 pub record Seen : Type 0 where
   pub place : Place
   pub number : ℕ
@@ -65,4 +67,15 @@ pub record IsPassView (v : View) : Type 0 where
 
 -- the first pass of a room
 abbrev pub new_pass : Place → Seen
-new_pass place = record { place = place; number = 0; history = []; left = 2 ^ 56; held = 0 ∷ []; kin = []; splits = 0; asked = []; glances = []; sees = 0 }
+new_pass place = record {
+  place = place;
+  number = 0;
+  history = [];
+  left = 2 ^ 56;
+  held = 0 ∷ [];
+  kin = [];
+  splits = 0;
+  asked = [];
+  glances = [];
+  sees = 0;
+}

@@ -1,4 +1,5 @@
--- An entry as lists of numbers, and read back from them. This is of proofs alone: nothing of it is computed where the program runs.
+-- An entry as lists of numbers, and read back from them. This is of proofs alone: nothing of it is
+-- computed where the program runs.
 use Rattle.std.specs.Prelude.{ℕ, Bool, true, false, if◌then◌else◌, List, [], ◌∷◌, map, ◌==◌}
 use Rattle.gi_dimacs.specs.declared.fault.CnfCode.TheVariants as code
 use Rattle.gi_model.specs.declared.calls.Call.{Call}
@@ -120,7 +121,8 @@ refusal_tale refusal.NotImplied = plain 40
 refusal_tale refusal.NoSolve = plain 41
 refusal_tale refusal.NoModel = plain 42
 refusal_tale refusal.NoClause = plain 43
-refusal_tale (refusal.Payload line gate c) = record (plain 44) { one = line; two = gate; three = code_number c }
+refusal_tale (refusal.Payload line gate c) =
+    record (plain 44) { one = line; two = gate; three = code_number c }
 
 abbrev pub refusal_at : ℕ → Tale → Refusal
 refusal_at k t =
@@ -158,10 +160,13 @@ status_tale s (status.Unknown why.Stopped) = number 12 s
 
 abbrev pub worked_tale : List (List ℕ) → Now → Tale
 worked_tale news now.Live = record (plain 20) { rows = news }
-worked_tale news (now.Ended (verdict.Sat values)) = record (listed 21 0 (map bit values)) { rows = news }
+worked_tale news (now.Ended (verdict.Sat values)) =
+    record (listed 21 0 (map bit values)) { rows = news }
 worked_tale news (now.Ended (verdict.Unsat w)) = record (listed 22 0 w) { rows = news }
-worked_tale news (now.Ended (verdict.Unknown (cause.Stopped mark))) = record (number 23 mark) { rows = news }
-worked_tale news (now.Ended (verdict.Unknown (cause.Budget b))) = record (number 24 b) { rows = news }
+worked_tale news (now.Ended (verdict.Unknown (cause.Stopped mark))) =
+    record (number 23 mark) { rows = news }
+worked_tale news (now.Ended (verdict.Unknown (cause.Budget b))) =
+    record (number 24 b) { rows = news }
 
 abbrev pub reply_tale : Reply → Tale
 reply_tale reply.Done = plain 0
@@ -219,12 +224,14 @@ abbrev pub lists_of : Tale → List (List ℕ)
 lists_of t = (t.kind ∷ t.one ∷ t.two ∷ t.three ∷ []) ∷ t.row ∷ t.rows
 
 abbrev pub tale_at : List (List ℕ) → Tale
-tale_at ((k ∷ a ∷ b ∷ c ∷ []) ∷ row ∷ rows) = record { kind = k; one = a; two = b; three = c; row = row; rows = rows }
+tale_at ((k ∷ a ∷ b ∷ c ∷ []) ∷ row ∷ rows) =
+    record { kind = k; one = a; two = b; three = c; row = row; rows = rows }
 tale_at other = plain 0
 
 -- an entry: its call, which has one number and two lists, and then its reply
 unfoldable pub told_of : Call → Reply → List (List ℕ)
-told_of c r = (let t = call_tale c in (t.kind ∷ t.one ∷ []) ∷ t.row ∷ call_guards c ∷ lists_of (reply_tale r))
+told_of c r = (let t = call_tale c in (t.kind ∷ t.one ∷ []) ∷ t.row ∷ call_guards c
+    ∷ lists_of (reply_tale r))
 
 unfoldable pub call_in : List (List ℕ) → Call
 call_in ((k ∷ n ∷ []) ∷ row ∷ guards ∷ rest) = call_at k guards (listed k n row)

@@ -1,7 +1,7 @@
 // Where a worker waits that has nothing to do.
 
-/// Lets a worker through each time that it found nothing to do. A gate that yields the processor keeps an idle worker
-/// from using it up.
+/// Lets a worker through each time that it found nothing to do. A gate that yields the processor
+/// keeps an idle worker from using it up.
 pub trait Gate {
     /// Returns when the worker may look again.
     fn turn(&self);

@@ -3,8 +3,8 @@ use gi_model::solves_are_short;
 use gi_turn::Seat;
 use std::marker::Model;
 
-/// A caller's leave to use a room, with a number of its own there. Contracts see it as `Seen`; all of that but the calls left
-/// is of proofs alone. The calls of a pass that is dropped are lost.
+/// A caller's leave to use a room, with a number of its own there. Contracts see it as `Seen`; all
+/// of that but the calls left is of proofs alone. The calls of a pass that is dropped are lost.
 #[derive(Drop)]
 pub struct Pass {
     pub(crate) seat: Seat<SharedCore>,
@@ -23,14 +23,17 @@ impl Model for Pass {
 }
 
 impl Pass {
-    ghost use Rattle.std.specs.Prelude.{◌≡◌};
+    ghost use Rattle.std.specs.Prelude.{◌≡◌, Contains};
     ghost use Rattle.gi_model.specs.History.{IsLegal};
     ghost use Rattle.gi_room.specs.Calls.{HasCauses, KnowsPhases, SolvesAreShort};
 
-    /// What holds of every pass: the history that it has seen is a legal one of the machine; each glance at a length that the
-    /// history has reached names the phase there; each stop in it was asked for after its solve was started, by this pass
-    /// where it is the sole one; and each solve in it learns at most 3^n clauses over n variables while no edit is accepted.
+    /// What holds of every pass: it holds its own number; the history that it has seen is a legal
+    /// one of the machine; each glance at a length that the history has reached names the phase
+    /// there; each stop in it was asked for after its solve was started, by this pass where it is
+    /// the sole one; and each solve in it learns at most 3^n clauses over n variables while no edit
+    /// is accepted.
     pub fn knows(&self)
+        ensures own { Contains self.now.held self.now.number }
         ensures legal { IsLegal self.now.history }
         ensures phases { KnowsPhases self.now }
         ensures causes { HasCauses self.now }

@@ -46,7 +46,8 @@ fn must_work(call: &Call, core: &Core) -> bool
 }
 
 impl Room {
-    /// A new machine with no history, and its first pass, which has 2^56 calls left. `AllocError` comes only where memory ran out.
+    /// A new machine with no history, and its first pass, which has 2^56 calls left. `AllocError`
+    /// comes only where memory ran out.
     pub fn open(alloc: Global) -> Result<(Room, Pass), AllocError>
         ensures { IfOk result (λ r. r.1 ≡ new_pass r.0) }
     {
@@ -73,10 +74,12 @@ impl Room {
         Some(make(&self.turnstile, &mut pass.seat, shared, call))
     }
 
-    /// Makes a call that fits, waits for its turn, and answers as the machine does. The pass has then seen the entries that others
-    /// made meanwhile, and last of all its own, so a glance before the call is never beyond the history. A wait does slices of
-    /// work on a solve as long as it finds one running, each an entry of its own. `Spent` comes exactly where the pass has no
-    /// call left for the next entry, and is none. `NoMemory` comes of calls that take memory alone.
+    /// Makes a call that fits, waits for its turn, and answers as the machine does. The pass has
+    /// then seen the entries that others made meanwhile, and last of all its own, so a glance
+    /// before the call is never beyond the history. A wait does slices of work on a solve as long
+    /// as it finds one running, each an entry of its own. `Spent` comes exactly where the pass has
+    /// no call left for the next entry, and is none. `NoMemory` comes of calls that take memory
+    /// alone.
     pub fn call<R: Wait>(&self, rt: &R, pass: &mut Pass, call: &Call) -> Reply
         requires of { pass.old.place ≡ self.now }
         requires fits { fits call.now ≡ true }
@@ -96,8 +99,9 @@ impl Room {
         }
     }
 
-    /// One entry of work: a slice, where a solve is running, and else `Idle`. A slice looks for stops again and again while
-    /// it goes on, and heeds all that the pass asked. `Spent` comes exactly where the pass has no call left, and is no entry.
+    /// One entry of work: a slice, where a solve is running, and else `Idle`. A slice looks for
+    /// stops again and again while it goes on, and heeds all that the pass asked. `Spent` comes
+    /// exactly where the pass has no call left, and is no entry.
     pub fn help<R: Wait>(&self, rt: &R, pass: &mut Pass) -> Reply
         requires of { pass.old.place ≡ self.now }
         ensures helps { Helps result pass.old pass.new }
@@ -111,8 +115,8 @@ impl Room {
         work(&self.turnstile, &mut pass.seat, shared)
     }
 
-    /// How long the history is now, no less than the pass has seen, and the machine's phase after so many entries.
-    /// It waits for nobody.
+    /// How long the history is now, no less than the pass has seen, and the machine's phase after
+    /// so many entries. It waits for nobody.
     pub fn peek(&self, pass: &mut Pass) -> (u64, Phase)
         requires of { pass.old.place ≡ self.now }
         ensures looked { pass.new ≡ glanced pass.old result }
@@ -123,7 +127,8 @@ impl Room {
         (length, phase_of(number))
     }
 
-    /// Asks that the solve of this serial be stopped, which the pass has seen start. It waits for nobody and takes no memory.
+    /// Asks that the solve of this serial be stopped, which the pass has seen start. It waits for
+    /// nobody and takes no memory.
     pub fn ask_stop(&self, pass: &mut Pass, serial: u64)
         requires of { pass.old.place ≡ self.now }
         requires started { IsStarted pass.old.history serial }
@@ -132,7 +137,8 @@ impl Room {
         self.turnstile.raise(&mut pass.seat, serial);
     }
 
-    /// A new pass, with half of the calls left, rounded down, and all that this one has seen; what was asked stays with this one.
+    /// A new pass, with half of the calls left, rounded down, and all that this one has seen; what
+    /// was asked stays with this one.
     pub fn split(&self, pass: &mut Pass) -> Pass
         requires of { pass.old.place ≡ self.now }
         ensures left { pass.new ≡ split_left pass.old }
@@ -143,8 +149,8 @@ impl Room {
         }
     }
 
-    /// Takes the other pass in: calls left, numbers and asks come together, and the longer history stays, which the shorter one
-    /// begins. Beyond what each has seen it has no entry of that pass.
+    /// Takes the other pass in: calls left, numbers and asks come together, and the longer history
+    /// stays, which the shorter one begins. Beyond what each has seen it has no entry of that pass.
     pub fn join(&self, into: &mut Pass, other: Pass)
         requires of { (into.old.place ≡ self.now) × (other.place ≡ self.now) }
         ensures { Joins into.old other into.new }

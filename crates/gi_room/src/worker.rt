@@ -48,8 +48,9 @@ impl Room {
         false
     }
 
-    /// Does the work of the room's solves, each slice an entry of its own, until it sees that the machine is shut or dead, or the
-    /// pass has no call left. It turns the gate each time that it finds no solve running.
+    /// Does the work of the room's solves, each slice an entry of its own, until it sees that the
+    /// machine is shut or dead, or the pass has no call left. It turns the gate each time that it
+    /// finds no solve running.
     pub fn help_until_shut<R: Wait, G: Gate>(&self, rt: &R, pass: &mut Pass, gate: &G)
         requires of { pass.old.place ≡ self.now }
         ensures helps { OnlyHelps pass.old pass.new }

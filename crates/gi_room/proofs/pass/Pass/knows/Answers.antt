@@ -1,4 +1,5 @@
 use Rattle.std.proofs.Common.{subst}
+use Rattle.std.specs.Prelude.{Contains}
 use Rattle.gi_model.specs.State.{opening}
 use Rattle.gi_model.specs.History.{IsLegal}
 use Rattle.gi_turn.specs.Seats.{view_of}
@@ -9,6 +10,9 @@ use Rattle.gi_room.proofs.Turns.{turns_legal}
 use Rattle.gi_room.proofs.Turning.{glances_named}
 use Rattle.gi_room.proofs.Marking.{causes, short}
 use Rattle.gi_room.proofs.pass.Pass.knows.Goals as goal
+
+pub returns-clause-own : goal.returns-clause-own
+returns-clause-own c = subst (λ (p : Seen). Contains p.held p.number) c.self.view_is c.self.invariant.own
 
 pub returns-clause-legal : goal.returns-clause-legal
 returns-clause-legal c = subst (λ (p : Seen). IsLegal p.history) c.self.view_is record { each = turns_legal (view_of c.self.inside.seat).seen opening c.self.invariant.turns }

@@ -1,6 +1,5 @@
 use Rattle.std.proofs.Common.{ap, sym, ◌∙◌}
 use Rattle.gi_room.specs.Seen.{Seen}
-use Rattle.gi_room.proofs.Calling.{holds_none}
 use Rattle.gi_room.proofs.Turning.{works_as, helps_as}
 use Rattle.gi_room.proofs.room.Room.help.Goals as goal
 
