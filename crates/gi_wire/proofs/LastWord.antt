@@ -54,13 +54,13 @@ split_at xs (suc k) there white =
     ap words_of at.1 ∙ words_split [] (take k xs) (get_or xs k 0) (drop (suc k) xs) w
     ∙ ap (λ (ws : List (List ℕ)). ws ++ words_of (drop (suc k) xs)) (sym (ap words_of at.0 ∙ words_split [] (take k xs) (get_or xs k 0) [] w ∙ nil_back (words_of (take k xs))))
 
-ends_plus_last : (ws : List (List ℕ)) (w : List ℕ) → ends_plus (ws ++ w ∷ []) ≡ bytes_eq w (codes "+")
+pub ends_plus_last : (ws : List (List ℕ)) (w : List ℕ) → ends_plus (ws ++ w ∷ []) ≡ bytes_eq w (codes "+")
 unfolding ends_plus
 ends_plus_last [] w = refl
 ends_plus_last (v ∷ []) w = refl
 ends_plus_last (v ∷ u ∷ ws) w = ends_plus_last (u ∷ ws) w
 
-but_last_last : (ws : List (List ℕ)) (w : List ℕ) → but_last (ws ++ w ∷ []) ≡ ws
+pub but_last_last : (ws : List (List ℕ)) (w : List ℕ) → but_last (ws ++ w ∷ []) ≡ ws
 unfolding but_last
 but_last_last [] w = refl
 but_last_last (v ∷ []) w = refl

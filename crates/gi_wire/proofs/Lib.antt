@@ -3,9 +3,15 @@ pub mod LastWord
 pub mod Plus
 pub mod Reading
 pub mod Sources
+pub mod Front
 pub mod Staying
 pub mod Joining
 pub mod FieldCuts
+pub mod Lfs
 pub mod Spelled
+pub mod WrappedMore
+pub mod WrappedBack
+pub mod CallsBack
 pub mod Telling
 pub mod ReadBack
+pub mod AnswerLines

@@ -11,7 +11,7 @@ both : (a b : Bool) → (a && b) ≡ true → (a ≡ true) × (b ≡ true)
 both true b h = (refl, h)
 both false b h = cc
 
-led_by_none : (o : Option ℕ) → led_by o None ≡ None
+pub led_by_none : (o : Option ℕ) → led_by o None ≡ None
 led_by_none None = refl
 led_by_none (Some l) = refl
 
@@ -42,7 +42,7 @@ not_alone name list plus =
     let no : false ≡ true = subst (λ (w : List ℕ). (bytes_eq w (codes "add") || (bytes_eq w (codes "assume") || bytes_eq w (codes "under"))) ≡ true) is list in
     cc
 
-under_none : (o : Option ℕ) (l : Option (List ℕ)) → l ≡ None → under_by o l ≡ None
+pub under_none : (o : Option ℕ) (l : Option (List ℕ)) → l ≡ None → under_by o l ≡ None
 under_none None l h = refl
 under_none (Some g) l h = ap (option_map (call.Under (g ∷ []))) h
 

@@ -1,23 +1,26 @@
 -- Numbers with their shortest spelling.
-use Rattle.std.proofs.Common.{◌≡◌, ◌≢◌, ℕ, suc, ◌+◌, ◌-◌, ◌*◌, ◌/◌, ◌%◌, ◌^◌, ◌<◌, ◌≤◌, ℤ, pos, negsuc, Bool, true, false, ◌&&◌, nat_le, cond, Option, Some, None, List, [], ◌∷◌, bytes_eq, codes, decimal, inl, inr, refl, ap, sym, ◌∙◌, subst, arith, rules}
+use Rattle.std.proofs.Common.{◌≡◌, ◌≢◌, ℕ, suc, ◌+◌, ◌-◌, ◌*◌, ◌/◌, ◌%◌, ◌^◌, ◌<◌, ◌≤◌, ◌==◌, ℤ, pos, negsuc, Bool, true, false, not, ◌&&◌, nat_le, cond, Option, Some, None, List, [], ◌∷◌, length, bytes_eq, codes, decimal, inl, inr, refl, ap, sym, ◌∙◌, subst, arith, rules, lit<}
 use Rattle.std.specs.Prelude.{nat_abs, neg_ℤ}
 use Rattle.std.specs.List.{All, AllByRecursion}
 use Rattle.std.specs.Fmt.{signed_decimal}
 use Rattle.std.specs.Str.{all_ascii_digits}
 use Rattle.std.specs.Char.{is_ascii_digit}
 use Rattle.std.proofs.lemmas.Bool.{and_parts, eq-eqb, false_from_ne_true, le-leb, leb-true, ne_eqb}
-use Rattle.std.proofs.lemmas.Bool.Decides.{eqb_tells}
-use Rattle.std.proofs.lemmas.Fmt.{digits_decimal}
+use Rattle.std.proofs.lemmas.Bool.Decides.{eqb_tells, nat_tests}
+use Rattle.std.proofs.lemmas.Fmt.{decimal_nonempty, digits_decimal, length-decimal-le}
 use Rattle.std.proofs.lemmas.List.Elements.{All-from_recursion}
+use Rattle.std.proofs.lemmas.List.Sums.{list_all-from_AllPass}
 use Rattle.std.proofs.lemmas.Slice.Eq.{bytes_eq-Decides}
 use Rattle.std.proofs.lemmas.Str.Parse.{IsNumeralModel, numerals_by_fold}
 use Rattle.gi_lit.specs.Literals.{IsLiteral, literal_of, max_var, number_of}
 use Rattle.gi_text.specs.Numbers.{read_on, size_of}
 use Rattle.gi_text.specs.Numbers as numbers
+use Rattle.gi_text.specs.Words.{is_white}
 use Rattle.gi_text.proofs.Spellings.{number-signed_decimal}
 use Rattle.gi_wire.specs.Answers.{exactly, natural, spelled}
 use Rattle.gi_wire.specs.Grammar.{literal_at, literal_in, within}
 use Rattle.gi_wire.specs.Limits.{most_u64}
+use Rattle.gi_wire.proofs.Lfs.{no_lf}
 
 pub same_bytes : (xs : List ℕ) → bytes_eq xs xs ≡ true
 same_bytes xs = (bytes_eq-Decides xs xs).1 refl
@@ -104,12 +107,12 @@ in_is (Some z) l e =
 pub literal_is : (field : List ℕ) (l : ℕ) → literal_in (spelled field) ≡ Some l → (field ≡ signed_decimal (number_of l)) × IsLiteral l
 literal_is field l e = let i = in_is (spelled field) l e in (spelled_is field (number_of l) i.0, i.1)
 
-record HasNumber (l : ℕ) (z : ℤ) : Type 0 where
-  few : size_of z ≤ max_var
-  some : 1 ≤ size_of z
-  reads : literal_in (Some z) ≡ Some l
+pub record HasNumber (l : ℕ) (z : ℤ) : Type 0 where
+  pub few : size_of z ≤ max_var
+  pub some : 1 ≤ size_of z
+  pub reads : literal_in (Some z) ≡ Some l
 
-has_number : (l : ℕ) → IsLiteral l → HasNumber l (number_of l)
+pub has_number : (l : ℕ) → IsLiteral l → HasNumber l (number_of l)
 unfolding number_of
 has_number l h =
     let v : l / 2 ≡ suc (l / 2 - 1) = omega (arith, h.0) in
@@ -159,18 +162,43 @@ literal_same field l was same =
     let i = in_is (numbers.number_of field) l was in
     ap (λ (f : List ℕ). literal_in (spelled f)) same ∙ literal_some l i.1
 
--- digits and a minus are no space
+-- digits and a minus
 own : IsNumeralModel (λ ds. all_ascii_digits ds ≡ true) (read_on 0)
 unfolding read_on
 own = numerals_by_fold _ (search rules) read_on (search rules)
 
+digits_each : (P : ℕ → Type 0) → ((d : ℕ) → is_ascii_digit d ≡ true → P d) → (ds : List ℕ) → all_ascii_digits ds ≡ true → AllByRecursion P ds
+digits_each P each [] h = tt
+digits_each P each (d ∷ ds) h = let p = and_parts (is_ascii_digit d) (all_ascii_digits ds) h in (each d p.0, digits_each P each ds p.1)
+
+-- what holds of each digit and of a minus holds of each byte of a number
+pub signed_each : (P : ℕ → Type 0) → ((d : ℕ) → is_ascii_digit d ≡ true → P d) → P 45 → (z : ℤ) → size_of z ≤ most_u64 → All P (signed_decimal z)
+signed_each P each minus (pos n) few = All-from_recursion P (decimal n) (digits_each P each (decimal n) (digits_decimal own n (omega arith)))
+signed_each P each minus (negsuc n) few = All-from_recursion P (45 ∷ decimal (suc n)) (minus, digits_each P each (decimal (suc n)) (digits_decimal own (suc n) (omega arith)))
+
 digit_apart : (d : ℕ) → is_ascii_digit d ≡ true → d ≢ 32
 digit_apart d h = λ e. let not_so : false ≡ true = ap is_ascii_digit (sym e) ∙ h in cc
 
-digits_apart : (ds : List ℕ) → all_ascii_digits ds ≡ true → AllByRecursion (λ b. b ≢ 32) ds
-digits_apart [] h = tt
-digits_apart (d ∷ ds) h = let p = and_parts (is_ascii_digit d) (all_ascii_digits ds) h in (digit_apart d p.0, digits_apart ds p.1)
-
 pub signed_apart : (z : ℤ) → size_of z ≤ most_u64 → All (λ b. b ≢ 32) (signed_decimal z)
-signed_apart (pos n) few = All-from_recursion (λ b. b ≢ 32) (decimal n) (digits_apart (decimal n) (digits_decimal own n (omega arith)))
-signed_apart (negsuc n) few = All-from_recursion (λ b. b ≢ 32) (45 ∷ decimal (suc n)) (λ e. omega arith, digits_apart (decimal (suc n)) (digits_decimal own (suc n) (omega arith)))
+signed_apart z few = signed_each (λ b. b ≢ 32) digit_apart (λ e. omega arith) z few
+
+digit_not_white : (d : ℕ) → is_ascii_digit d ≡ true → is_white d ≡ false
+digit_not_white d h = grind (arith, nat_tests)
+
+pub signed_not_white : (z : ℤ) → size_of z ≤ most_u64 → All (λ b. is_white b ≡ false) (signed_decimal z)
+signed_not_white z few = signed_each (λ b. is_white b ≡ false) digit_not_white refl z few
+
+digit_no_lf : (d : ℕ) → is_ascii_digit d ≡ true → not (d == 10) ≡ true
+digit_no_lf d h = grind (arith, nat_tests)
+
+pub signed_no_lf : (z : ℤ) → size_of z ≤ most_u64 → no_lf (signed_decimal z) ≡ true
+signed_no_lf z few = list_all-from_AllPass (λ b. not (b == 10)) (signed_decimal z) (signed_each (λ b. not (b == 10) ≡ true) digit_no_lf refl z few)
+
+-- a number has some bytes, and not many
+pub signed_some : (z : ℤ) → size_of z ≤ most_u64 → 0 < length (signed_decimal z)
+signed_some (pos n) few = decimal_nonempty n (omega arith)
+signed_some (negsuc n) few = omega arith
+
+pub signed_short : (z : ℤ) → size_of z ≤ most_u64 → length (signed_decimal z) ≤ 21
+signed_short (pos n) few = omega (arith, length-decimal-le 20 n (lit< tt) (omega arith) (omega arith))
+signed_short (negsuc n) few = omega (arith, length-decimal-le 20 (suc n) (lit< tt) (omega arith) (omega arith))

@@ -38,7 +38,8 @@ natural_64 field = natural 0 most_u64 field
 -- literals, and then a 0 as the last field
 unfoldable pub literals_of : List (List ℕ) → Option (List ℕ)
 literals_of [] = None
-literals_of (field ∷ fields) = if bytes_eq field (codes "0") then ended fields else led_by (literal_in (spelled field)) (literals_of fields)
+literals_of (field ∷ fields) = if bytes_eq field (codes "0") then ended fields
+    else led_by (literal_in (spelled field)) (literals_of fields)
 
 -- an answer that is its name alone
 unfoldable pub reply_alone : List ℕ → Option Reply
@@ -48,11 +49,13 @@ reply_alone name = if bytes_eq name (codes "ok") then Some reply.Done
 
 -- an answer with one number
 unfoldable pub reply_with : List ℕ → List ℕ → Option Reply
-reply_with name field = if bytes_eq name (codes "vars") then option_map reply.Vars (natural_32 field)
+reply_with name field = if bytes_eq name (codes "vars")
+    then option_map reply.Vars (natural_32 field)
     else if bytes_eq name (codes "guard") then option_map reply.Guard (natural 1 max_var field)
     else if bytes_eq name (codes "started") then option_map reply.Started (natural_64 field)
     else if bytes_eq name (codes "known") then option_map reply.Known (natural_64 field)
-    else if bytes_eq name (codes "sat") then option_map (λ s. reply.Status s status.Sat) (natural_64 field) else None
+    else if bytes_eq name (codes "sat")
+    then option_map (λ s. reply.Status s status.Sat) (natural_64 field) else None
 
 -- the status of a solve, by its serial and what else it tells
 abbrev pub status_by : Option ℕ → Option Status → Option Reply
@@ -60,13 +63,17 @@ status_by None how = None
 status_by (Some serial) how = option_map (reply.Status serial) how
 
 abbrev pub why_of : List ℕ → Option Why
-why_of field = if bytes_eq field (codes "budget") then Some why.Budget else if bytes_eq field (codes "stopped") then Some why.Stopped else None
+why_of field = if bytes_eq field (codes "budget") then Some why.Budget
+    else if bytes_eq field (codes "stopped") then Some why.Stopped else None
 
 -- an answer with a serial and one more field
 unfoldable pub reply_of_two : List ℕ → List ℕ → List ℕ → Option Reply
-reply_of_two name serial field = if bytes_eq name (codes "running") then status_by (natural_64 serial) (option_map status.Running (natural_32 field))
-    else if bytes_eq name (codes "paused") then status_by (natural_64 serial) (option_map status.Paused (natural_32 field))
-    else if bytes_eq name (codes "unknown") then status_by (natural_64 serial) (option_map status.Unknown (why_of field)) else None
+reply_of_two name serial field = if bytes_eq name (codes "running")
+    then status_by (natural_64 serial) (option_map status.Running (natural_32 field))
+    else if bytes_eq name (codes "paused")
+    then status_by (natural_64 serial) (option_map status.Paused (natural_32 field))
+    else if bytes_eq name (codes "unknown")
+    then status_by (natural_64 serial) (option_map status.Unknown (why_of field)) else None
 
 abbrev pub short_reply : List ℕ → List (List ℕ) → Option Reply
 short_reply name [] = reply_alone name
@@ -78,7 +85,8 @@ short_reply name (serial ∷ field ∷ other ∷ fields) = None
 abbrev pub failed_by : Option ℕ → List (List ℕ) → Option Reply
 failed_by None fields = None
 failed_by (Some serial) [] = Some (reply.Status serial status.Unsat)
-failed_by (Some serial) (field ∷ fields) = option_map (reply.Unsat serial) (literals_of (field ∷ fields))
+failed_by (Some serial) (field ∷ fields) =
+    option_map (reply.Unsat serial) (literals_of (field ∷ fields))
 
 abbrev pub unsat_of : List (List ℕ) → Option Reply
 unsat_of [] = None
@@ -93,12 +101,14 @@ abbrev pub loaded_of : List (List ℕ) → Option Reply
 loaded_of [] = None
 loaded_of (kind ∷ []) = None
 loaded_of (kind ∷ vars ∷ []) = None
-loaded_of (kind ∷ vars ∷ clauses ∷ []) = if bytes_eq kind (codes "cnf") then counts_by (natural_32 vars) (natural_32 clauses) else None
+loaded_of (kind ∷ vars ∷ clauses ∷ []) = if bytes_eq kind (codes "cnf")
+    then counts_by (natural_32 vars) (natural_32 clauses) else None
 loaded_of (kind ∷ vars ∷ clauses ∷ other ∷ fields) = None
 
 -- an answer of this name but a refusal
 unfoldable pub reply_of : List ℕ → List (List ℕ) → Option Reply
-reply_of name fields = if bytes_eq name (codes "implied") then option_map reply.Implied (literals_of fields)
+reply_of name fields = if bytes_eq name (codes "implied")
+    then option_map reply.Implied (literals_of fields)
     else if bytes_eq name (codes "failed") then option_map reply.Failed (literals_of fields)
     else if bytes_eq name (codes "reasons") then option_map reply.Reasons (literals_of fields)
     else if bytes_eq name (codes "model") then option_map reply.Model (literals_of fields)
@@ -108,11 +118,20 @@ reply_of name fields = if bytes_eq name (codes "implied") then option_map reply.
 
 -- the refusal of this number that tells nothing else
 unfoldable pub plain_refusal : ℕ → Option Refusal
-plain_refusal n = if n == 1 then Some refusal.Syntax else if n == 2 then Some refusal.Long else if n == 3 then Some refusal.Dead
-    else if n == 4 then Some refusal.Busy else if n == 5 then Some refusal.Scoped else if n == 6 then Some refusal.Lit
-    else if n == 7 then Some refusal.NotGuard else if n == 8 then Some refusal.Held else if n == 9 then Some refusal.Limit
-    else if n == 10 then Some refusal.NoScope else if n == 11 then Some refusal.NotImplied else if n == 12 then Some refusal.NoSolve
-    else if n == 13 then Some refusal.NoModel else if n == 14 then Some refusal.NoClause else None
+plain_refusal n = if n == 1 then Some refusal.Syntax
+    else if n == 2 then Some refusal.Long
+    else if n == 3 then Some refusal.Dead
+    else if n == 4 then Some refusal.Busy
+    else if n == 5 then Some refusal.Scoped
+    else if n == 6 then Some refusal.Lit
+    else if n == 7 then Some refusal.NotGuard
+    else if n == 8 then Some refusal.Held
+    else if n == 9 then Some refusal.Limit
+    else if n == 10 then Some refusal.NoScope
+    else if n == 11 then Some refusal.NotImplied
+    else if n == 12 then Some refusal.NoSolve
+    else if n == 13 then Some refusal.NoModel
+    else if n == 14 then Some refusal.NoClause else None
 
 unfoldable pub code_of : List ℕ → Option PayloadCode
 code_of field = if bytes_eq field (codes "header") then Some (Cnf Header)
@@ -130,7 +149,8 @@ payload_by (Some line) (Some gate) code = option_map (refusal.Payload line gate)
 abbrev pub payload_of : List ℕ → List (List ℕ) → Option Refusal
 payload_of line [] = None
 payload_of line (code ∷ []) = payload_by (natural_64 line) (Some 0) (code_of code)
-payload_of line (code ∷ gate ∷ []) = payload_by (natural_64 line) (natural 1 most_u32 gate) (code_of code)
+payload_of line (code ∷ gate ∷ []) =
+    payload_by (natural_64 line) (natural 1 most_u32 gate) (code_of code)
 payload_of line (code ∷ gate ∷ other ∷ fields) = None
 
 abbrev pub plain_by : Option ℕ → Option Refusal
@@ -159,9 +179,14 @@ refused_of (line ∷ number ∷ fields) = refused_by (natural_64 line) (refusal_
 -- the answer that these fields tell, and the line that it names, which is 0 but for a refusal
 unfoldable pub told_of : List (List ℕ) → Option (ℕ × Reply)
 told_of [] = None
-told_of (name ∷ fields) = if bytes_eq name (codes "refused") then refused_of fields else option_map (λ r. (0, r)) (reply_of name fields)
+told_of (name ∷ fields) = if bytes_eq name (codes "refused") then refused_of fields
+    else option_map (λ r. (0, r)) (reply_of name fields)
 
 -- the first field is the name of an answer that may have a list of literals
 unfoldable pub tells_list : List (List ℕ) → Bool
 tells_list [] = false
-tells_list (name ∷ fields) = bytes_eq name (codes "implied") || (bytes_eq name (codes "failed") || (bytes_eq name (codes "reasons") || (bytes_eq name (codes "model") || (bytes_eq name (codes "clause") || bytes_eq name (codes "unsat")))))
+tells_list (name ∷ fields) = bytes_eq name (codes "implied")
+    || (bytes_eq name (codes "failed")
+    || (bytes_eq name (codes "reasons")
+    || (bytes_eq name (codes "model")
+    || (bytes_eq name (codes "clause") || bytes_eq name (codes "unsat")))))

@@ -11,7 +11,8 @@ use Rattle.gi_wire.specs.Source.{Source, ahead, Comes, last_line, most_items}
 
 -- the same is ahead
 pub record SameAhead (old new : Source) : Type 0 where
-  pub each : (ended : Bool) (more : List ℕ) → Comes old ended more → ahead new ended more ≡ ahead old ended more
+  pub each : (ended : Bool) (more : List ℕ) → Comes old ended more
+      → ahead new ended more ≡ ahead old ended more
 
 -- a call that an item asks for may be made
 abbrev pub MayBeAsked : RequestKind → Type 0
@@ -19,8 +20,8 @@ MayBeAsked (asked.Call call) = fits call ≡ true
 MayBeAsked asked.Syntax = Unit {0}
 MayBeAsked asked.Long = Unit {0}
 
--- reading such an item takes memory: a list of guards or literals, also one that is outside the grammar, the bytes of a
--- load, or the text of lines that are joined, also of too many
+-- reading such an item takes memory: a list of guards or literals, also one that is outside the
+-- grammar, the bytes of a load, or the text of lines that are joined, also of too many
 abbrev pub takes_memory : RequestKind → Bool
 takes_memory (asked.Call (call.Add clause)) = true
 takes_memory (asked.Call (call.Under guards clause)) = true
@@ -41,7 +42,8 @@ pub record AsksMemory (s : Source) : Type 0 where
 
 -- the first item is given
 pub record GivesItem (item : Request) (old new : Source) : Type 0 where
-  pub ahead_is : (ended : Bool) (more : List ℕ) → Comes old ended more → ahead old ended more ≡ item ∷ ahead new ended more
+  pub ahead_is : (ended : Bool) (more : List ℕ) → Comes old ended more
+      → ahead old ended more ≡ item ∷ ahead new ended more
   pub may_be : MayBeAsked item.asked
   pub ended : new.lines.ended ≡ old.lines.ended
   pub fewer : most_items new < most_items old
@@ -58,7 +60,8 @@ pub record Waits (old new : Source) : Type 0 where
 abbrev pub GivesNext : NextRequest → Source → Source → Type 0
 GivesNext (given.Request item) old new = GivesItem item old new
 GivesNext given.More old new = Waits old new
-GivesNext given.Done old new = (old.lines.ended ≡ true) × (ahead old true [] ≡ []) × SameAhead old new
+GivesNext given.Done old new = (old.lines.ended ≡ true) × (ahead old true [] ≡ [])
+    × SameAhead old new
 GivesNext given.NoMemory old new = (new.lines.ended ≡ old.lines.ended) × AsksMemory old
 
 -- a load under way is an item that is still to be given

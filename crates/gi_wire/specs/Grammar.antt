@@ -25,7 +25,8 @@ guard_at word = count_at 1 max_var word
 -- a variable's number, or its negation
 abbrev pub literal_in : Option ℤ → Option ℕ
 literal_in None = None
-literal_in (Some z) = if nat_le 1 (nat_abs z) && nat_le (nat_abs z) max_var then Some (literal_of z) else None
+literal_in (Some z) = if nat_le 1 (nat_abs z) && nat_le (nat_abs z) max_var then Some (literal_of z)
+    else None
 
 abbrev pub literal_at : List ℕ → Option ℕ
 literal_at word = literal_in (number_of word)
@@ -47,7 +48,8 @@ led_by (Some l) list = option_map (λ ls. l ∷ ls) list
 -- literals, and then a 0 as the last word
 unfoldable pub list_at : List (List ℕ) → Option (List ℕ)
 list_at [] = None
-list_at (word ∷ words) = if is_zero (number_of word) then ended words else led_by (literal_at word) (list_at words)
+list_at (word ∷ words) = if is_zero (number_of word) then ended words
+    else led_by (literal_at word) (list_at words)
 
 -- a call that is its name alone; a solve without a budget has the greatest
 unfoldable pub call_alone : List ℕ → Option Call
@@ -70,7 +72,8 @@ call_with name word = if bytes_eq name (codes "vars") then option_map Vars (coun
     else if bytes_eq name (codes "drop") then option_map DropGuard (guard_at word)
     else if bytes_eq name (codes "reasons") then option_map Reasons (literal_at word)
     else if bytes_eq name (codes "solve") then option_map Solve (count_at 1 4294967295 word)
-    else if bytes_eq name (codes "clause") then option_map KnownClause (count_at 1 4294967295 word) else None
+    else if bytes_eq name (codes "clause") then option_map KnownClause (count_at 1 4294967295 word)
+    else None
 
 -- a clause under one guard
 abbrev pub under_by : Option ℕ → Option (List ℕ) → Option Call
@@ -89,7 +92,8 @@ guarded_by (Some g) read = option_map (λ p. (g ∷ p.0, p.1)) read
 -- the guards before the first word 0, and the words behind it
 unfoldable pub guards_at : List (List ℕ) → Option (List ℕ × List (List ℕ))
 guards_at [] = None
-guards_at (word ∷ words) = if is_zero (number_of word) then Some ([], words) else guarded_by (guard_at word) (guards_at words)
+guards_at (word ∷ words) = if is_zero (number_of word) then Some ([], words)
+    else guarded_by (guard_at word) (guards_at words)
 
 -- guards, one at least, and a list
 abbrev pub under_guards : Option (List ℕ × List (List ℕ)) → Option Call
@@ -124,7 +128,8 @@ call_of (name ∷ words) = if bytes_eq name (codes "add") then option_map Add (l
 
 -- the name of a call that has a list of literals
 abbrev pub names_list : List ℕ → Bool
-names_list name = bytes_eq name (codes "add") || (bytes_eq name (codes "assume") || bytes_eq name (codes "under"))
+names_list name = bytes_eq name (codes "add")
+    || (bytes_eq name (codes "assume") || bytes_eq name (codes "under"))
 
 -- the first word is such a name
 unfoldable pub has_list : List (List ℕ) → Bool
@@ -150,7 +155,8 @@ pub data Ask : Type 0 where
 
 -- a load, by its kind and its length
 unfoldable pub load_with : List ℕ → List ℕ → Option Ask
-load_with kind len = if bytes_eq kind (codes "cnf") then option_map (Loads Cnf) (count_at 0 most_payload len) else None
+load_with kind len = if bytes_eq kind (codes "cnf")
+    then option_map (Loads Cnf) (count_at 0 most_payload len) else None
 
 abbrev pub load_of : List (List ℕ) → Option Ask
 load_of [] = None
@@ -161,4 +167,5 @@ load_of (kind ∷ len ∷ word ∷ words) = None
 -- what a line of these words asks for
 unfoldable pub ask_of : List (List ℕ) → Option Ask
 ask_of [] = None
-ask_of (name ∷ words) = if bytes_eq name (codes "load") then load_of words else option_map Makes (call_of (name ∷ words))
+ask_of (name ∷ words) = if bytes_eq name (codes "load") then load_of words
+    else option_map Makes (call_of (name ∷ words))

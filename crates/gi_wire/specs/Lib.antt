@@ -1,6 +1,7 @@
 pub mod Limits
 pub mod Literals
 pub mod Text
+pub mod CallText
 pub mod Grammar
 pub mod CallRead
 pub mod Fields

@@ -48,9 +48,11 @@ IsTold line reply.Spent = ⊥
 -- an answer whose text the line is, or there is none; a list of literals alone takes memory
 abbrev pub ReadsReply : ReplyRead → List ℕ → Type 0
 ReadsReply (read.Told line reply) bytes = IsTold line reply × (words_text line reply ≡ bytes)
-ReadsReply read.Bad bytes = (line : ℕ) (reply : Reply) → IsTold line reply → words_text line reply ≢ bytes
+ReadsReply read.Bad bytes = (line : ℕ) (reply : Reply) → IsTold line reply
+    → words_text line reply ≢ bytes
 ReadsReply read.NoMemory bytes = tells_list (fields_of bytes) ≡ true
 
 -- no two answers have the same text
 abbrev pub TextsDiffer : Type 0
-TextsDiffer = (line other : ℕ) (one two : Reply) → IsTold line one → IsTold other two → words_text line one ≡ words_text other two → (line ≡ other) × (one ≡ two)
+TextsDiffer = (line other : ℕ) (one two : Reply) → IsTold line one → IsTold other two
+    → words_text line one ≡ words_text other two → (line ≡ other) × (one ≡ two)

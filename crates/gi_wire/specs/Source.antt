@@ -22,7 +22,8 @@ goes_on (Some load) joined line next = at_load line load.kind [] load.len next
 
 -- the items that come, where so many more bytes come and the input then ends or goes on
 unfoldable pub ahead : Source → Bool → List ℕ → List Request
-ahead s ended more = goes_on s.load s.joined s.line (λ line place. items_from ended line place (s.lines.left ++ more))
+ahead s ended more = goes_on s.load s.joined s.line
+    (λ line place. items_from ended line place (s.lines.left ++ more))
 
 -- what may still come: nothing once the input has ended
 abbrev pub Comes : Source → Bool → List ℕ → Type 0

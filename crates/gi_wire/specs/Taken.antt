@@ -26,6 +26,7 @@ abbrev pub Takes : Taken → List ℕ → Joined → Joined → Type 0
 Takes taken.GoesOn line old new = IsJoined line old new
 Takes taken.Long line old new = most_joined < old.size + length line
 Takes (taken.Call call) line old new = IsLast line old (Some (Makes call)) × (fits call ≡ true)
-Takes (taken.Load load) line old new = IsLast line old (Some (Loads load.kind load.len)) × (load.len ≤ most_payload)
+Takes (taken.Load load) line old new = IsLast line old (Some (Loads load.kind load.len))
+    × (load.len ≤ most_payload)
 Takes taken.Syntax line old new = IsLast line old None
 Takes taken.NoMemory line old new = has_list (old.words ++ words_of line) ≡ true

@@ -27,8 +27,10 @@ reason_text why.Stopped = codes " stopped"
 
 -- how the solve of this serial stands
 unfoldable pub status_text : ℕ → Status → List ℕ
-status_text serial (status.Running spent) = codes "running " ++ decimal serial ++ (codes " " ++ decimal spent)
-status_text serial (status.Paused spent) = codes "paused " ++ decimal serial ++ (codes " " ++ decimal spent)
+status_text serial (status.Running spent) = codes "running " ++ decimal serial
+    ++ (codes " " ++ decimal spent)
+status_text serial (status.Paused spent) = codes "paused " ++ decimal serial
+    ++ (codes " " ++ decimal spent)
 status_text serial status.Sat = codes "sat " ++ decimal serial
 status_text serial status.Unsat = codes "unsat " ++ decimal serial
 status_text serial (status.Unknown why) = codes "unknown " ++ decimal serial ++ reason_text why
@@ -47,7 +49,8 @@ gate_text gate = if gate == 0 then [] else codes " " ++ decimal gate
 
 -- what a refusal tells besides its number: of a payload the line that is wrong, and how
 unfoldable pub details_text : Refusal → List ℕ
-details_text (Payload line gate code) = codes " " ++ decimal line ++ (codes " " ++ code_text code) ++ gate_text gate
+details_text (Payload line gate code) = codes " " ++ decimal line ++ (codes " " ++ code_text code)
+    ++ gate_text gate
 details_text refusal = []
 
 -- the answer to the line of this number, without its LF
@@ -60,15 +63,18 @@ words_text line (reply.Failed ls) = codes "failed " ++ list_text ls
 words_text line (reply.Reasons ls) = codes "reasons " ++ list_text ls
 words_text line (reply.Started serial) = codes "started " ++ decimal serial
 words_text line (reply.Status serial status) = status_text serial status
-words_text line (reply.Unsat serial failed) = codes "unsat " ++ decimal serial ++ (codes " " ++ list_text failed)
+words_text line (reply.Unsat serial failed) = codes "unsat " ++ decimal serial
+    ++ (codes " " ++ list_text failed)
 words_text line (reply.Model ls) = codes "model " ++ list_text ls
 words_text line (reply.Known n) = codes "known " ++ decimal n
 words_text line (reply.Clause ls) = codes "clause " ++ list_text ls
-words_text line (reply.LoadedCnf vars clauses) = codes "loaded cnf " ++ decimal vars ++ (codes " " ++ decimal clauses)
+words_text line (reply.LoadedCnf vars clauses) = codes "loaded cnf " ++ decimal vars
+    ++ (codes " " ++ decimal clauses)
 words_text line reply.Bye = codes "bye"
 words_text line (reply.Worked news now) = []
 words_text line reply.Idle = []
-words_text line (reply.Refused refusal) = codes "refused " ++ decimal line ++ (codes " " ++ decimal (refusal_number refusal)) ++ details_text refusal
+words_text line (reply.Refused refusal) = codes "refused " ++ decimal line
+    ++ (codes " " ++ decimal (refusal_number refusal)) ++ details_text refusal
 words_text line reply.NoMemory = codes "nomem"
 words_text line reply.Spent = []
 

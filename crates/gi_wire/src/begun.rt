@@ -153,7 +153,8 @@ impl Begun {
 // The place of the `+` with which the first line of an item goes on.
 fn find_first_plus(line: &[u8]) -> Option<u32>
     requires { length line.now ≤ most_line }
-    ensures { MatchOption result (goes_on_by [] (words_of line.now) ≡ false) (λ place. (has_list (words_of line.now) ≡ true) × EndsAtPlus line.now place) }
+    ensures { MatchOption result (goes_on_by [] (words_of line.now) ≡ false)
+        (λ place. (has_list (words_of line.now) ≡ true) × EndsAtPlus line.now place) }
 {
     if may_go_on(line) {
         return plus_at(line);
@@ -181,7 +182,8 @@ fn front(line: &[u8], place: usize) -> &[u8]
 // Reads a line behind this text, to which it is added.
 fn read_behind(alloc: Global, text: &mut Bytes, line: &[u8]) -> CallRead
     requires list { 0 < length text.old → has_list (words_of text.old) ≡ true }
-    requires words { (more : List ℕ) → words_of (text.old ++ more) ≡ words_of text.old ++ words_of more }
+    requires words { (more : List ℕ)
+        → words_of (text.old ++ more) ≡ words_of text.old ++ words_of more }
     ensures { ReadsCall result (words_of text.old ++ words_of line.now) }
 {
     if text.as_slice().is_empty() {

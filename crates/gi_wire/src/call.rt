@@ -42,8 +42,8 @@ pub enum CallRead {
 }
 
 /// The call or load that a line asks for, by its words: white bytes before, between and after them
-/// don't matter. `Syntax` comes exactly where the grammar doesn't have the line, but for want of memory, which only a
-/// line takes whose first word is `add`, `assume` or `under`.
+/// don't matter. `Syntax` comes exactly where the grammar doesn't have the line, but for want of
+/// memory, which only a line takes whose first word is `add`, `assume` or `under`.
 #[tactic(auto, unfolding(crate::specs::Grammar::ask_of))]
 pub fn read_call(alloc: Global, line: &[u8]) -> CallRead
     ensures { ReadsCall result (words_of line.now) }

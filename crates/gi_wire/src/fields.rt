@@ -42,7 +42,8 @@ impl<'a> Fields<'a> {
 
     // The next field.
     pub fn take(&mut self) -> Option<&'a [u8]>
-        ensures { MatchOption result ((self.old ≡ []) × (self.new ≡ [])) (λ field. self.old ≡ field.now ∷ self.new) }
+        ensures { MatchOption result ((self.old ≡ []) × (self.new ≡ []))
+            (λ field. self.old ≡ field.now ∷ self.new) }
     {
         if self.done {
             return None;
@@ -62,7 +63,8 @@ impl<'a> Fields<'a> {
 
 // The first field, and what stands behind its space.
 fn split_field(line: &[u8]) -> (&[u8], Option<&[u8]>)
-    ensures { MatchOption result.1 (fields_of line.now ≡ result.0.now ∷ []) (λ rest. fields_of line.now ≡ result.0.now ∷ fields_of rest.now) }
+    ensures { MatchOption result.1 (fields_of line.now ≡ result.0.now ∷ [])
+        (λ rest. fields_of line.now ≡ result.0.now ∷ fields_of rest.now) }
 {
     let n = field_len(line);
     if n == line.len() {

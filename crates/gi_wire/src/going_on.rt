@@ -7,7 +7,8 @@ ghost use Rattle.gi_wire.specs.Limits.{most_joined};
 
 use gi_text::Words;
 
-/// Whether a line may go on in the next one: its first word is `add`, `under` or `assume`. Takes no memory.
+/// Whether a line may go on in the next one: its first word is `add`, `under` or `assume`. Takes no
+/// memory.
 #[tactic(auto, unfolding(crate::specs::Grammar::has_list))]
 pub fn may_go_on(line: &[u8]) -> bool
     requires { length line.now ≤ most_joined }
@@ -32,11 +33,12 @@ fn is_list_name(name: &[u8]) -> bool
     name == b"under".as_slice()
 }
 
-/// The place of a line's last word, where that is `+`. None exactly where it isn't, or the line has no word. Takes no
-/// memory.
+/// The place of a line's last word, where that is `+`. None exactly where it isn't, or the line has
+/// no word. Takes no memory.
 pub fn plus_at(line: &[u8]) -> Option<u32>
     requires { length line.now ≤ most_joined }
-    ensures { MatchOption result (ends_plus (words_of line.now) ≡ false) (λ place. EndsAtPlus line.now place) }
+    ensures { MatchOption result (ends_plus (words_of line.now) ≡ false)
+        (λ place. EndsAtPlus line.now place) }
 {
     let end = end_of_words(line);
     let start = start_of_word(line, end);
@@ -49,7 +51,8 @@ pub fn plus_at(line: &[u8]) -> Option<u32>
 // Where the last word ends, or 0.
 fn end_of_words(line: &[u8]) -> usize
     ensures within { result ≤ length line.now }
-    ensures behind { (k : ℕ) → result ≤ k → k < length line.now → is_white (slice_index line.now k) ≡ true }
+    ensures behind { (k : ℕ) → result ≤ k → k < length line.now
+        → is_white (slice_index line.now k) ≡ true }
     ensures last { 0 < result → is_white (slice_index line.now (result - 1)) ≡ false }
 {
     let mut end = line.len();

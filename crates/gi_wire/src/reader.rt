@@ -19,14 +19,16 @@ use std::marker::Model;
 #[derive(Drop)]
 pub enum RequestKind {
     Call(Call),
-    /// The line isn't in the grammar, or the input ends before the load's bytes are there or behind a `+`.
+    /// The line isn't in the grammar, or the input ends before the load's bytes are there or behind
+    /// a `+`.
     Syntax,
-    /// A line has more than `MAX_LINE` bytes, or those that are joined have more than `MAX_JOINED` together.
+    /// A line has more than `MAX_LINE` bytes, or those that are joined have more than `MAX_JOINED`
+    /// together.
     Long,
 }
 
-/// A line, with all that are joined to it because each before goes on by a last word `+`; a load with the bytes behind its
-/// line, which are no lines.
+/// A line, with all that are joined to it because each before goes on by a last word `+`; a load
+/// with the bytes behind its line, which are no lines.
 #[derive(Drop)]
 pub struct Request {
     /// The number of its first line, from 1.
@@ -42,12 +44,13 @@ pub enum NextRequest {
     More,
     /// The input has ended, and every item was given.
     Done,
-    /// There was no memory for the lists or the bytes of the next item. The reader isn't to be used again.
+    /// There was no memory for the lists or the bytes of the next item. The reader isn't to be used
+    /// again.
     NoMemory,
 }
 
-/// The items of an input that comes in pieces. It hides numbers, joined lines, loads under way, and how much is kept of
-/// lines that are too long.
+/// The items of an input that comes in pieces. It hides numbers, joined lines, loads under way, and
+/// how much is kept of lines that are too long.
 #[derive(Drop)]
 pub struct Reader {
     alloc: Global,
@@ -66,7 +69,12 @@ impl Model for Reader {
 
     ghost Value = { Source };
 
-    ghost view = { λ r. record { lines = r.lines; line = r.line; joined = r.begun; load = r.load } };
+    ghost view = { λ r. record {
+      lines = r.lines;
+      line = r.line;
+      joined = r.begun;
+      load = r.load;
+    } };
 
     ghost invariant = { λ r. HoldsLong r.lines × HoldsLoad r.lines r.load };
 }
@@ -74,7 +82,17 @@ impl Model for Reader {
 impl Reader {
     /// Nothing was fed yet. Takes no memory.
     pub fn new(alloc: Global) -> Reader
-        ensures { result ≡ record { lines = record { left = []; ended = false; long = false; most = most_line }; line = 1; joined = alone 1; load = None } }
+        ensures { result ≡ record {
+          lines = record {
+            left = [];
+            ended = false;
+            long = false;
+            most = most_line;
+          };
+          line = 1;
+          joined = alone 1;
+          load = None;
+        } }
     {
         Reader {
             alloc,
@@ -88,7 +106,8 @@ impl Reader {
     /// Takes the next piece of the input. For want of memory nothing changes.
     pub fn feed(&mut self, piece: &[u8]) -> Result<(), AllocError>
         ensures ended { self.new.lines.ended ≡ self.old.lines.ended }
-        ensures ok { OnOk result ((ended : Bool) (more : List ℕ) → ahead self.new ended more ≡ ahead self.old ended (piece.now ++ more)) }
+        ensures ok { OnOk result ((ended : Bool) (more : List ℕ)
+            → ahead self.new ended more ≡ ahead self.old ended (piece.now ++ more)) }
         ensures count { OnOk result (last_line self.new ≤ last_line self.old + length piece.now) }
         ensures err { OnErr result (self.new ≡ self.old) }
     {
@@ -99,7 +118,8 @@ impl Reader {
     /// The input has ended.
     pub fn end(&mut self)
         ensures ended { self.new.lines.ended ≡ true }
-        ensures same { (ended : Bool) (more : List ℕ) → ahead self.new ended more ≡ ahead self.old ended more }
+        ensures same { (ended : Bool) (more : List ℕ)
+            → ahead self.new ended more ≡ ahead self.old ended more }
         ensures count { last_line self.new ≡ last_line self.old }
     {
         self.lines.end();
@@ -134,7 +154,8 @@ impl Reader {
     fn take_line(&mut self) -> Option<NextRequest>
         requires room { last_line self.old < 2 ^ 63 }
         requires load { self.old.load ≡ None }
-        ensures { MatchOption result (GoesOn self.old self.new) (λ given. GivesNext given self.old self.new) }
+        ensures { MatchOption result (GoesOn self.old self.new)
+            (λ given. GivesNext given self.old self.new) }
     {
         match self.lines.look() {
             Look::Line(n) => self.take_whole(n),
@@ -153,7 +174,8 @@ impl Reader {
         requires load { self.old.load ≡ None }
         requires line { IsLine n self.old.lines }
         requires short { n ≤ most_line }
-        ensures { MatchOption result (GoesOn self.old self.new) (λ given. GivesNext given self.old self.new) }
+        ensures { MatchOption result (GoesOn self.old self.new)
+            (λ given. GivesNext given self.old self.new) }
     {
         let first = self.begun.first();
         match take_front(self.alloc, &mut self.begun, &mut self.lines, n) {
@@ -218,7 +240,11 @@ impl Reader {
     fn number(&mut self, first: u64, asked: RequestKind) -> Request
         requires { self.old.line < 2 ^ 63 }
         ensures item { result ≡ record { line = first; asked = asked } }
-        ensures next { self.new ≡ record self.old { line = self.old.line + 1; joined = alone (self.old.line + 1); load = None } }
+        ensures next { self.new ≡ record self.old {
+          line = self.old.line + 1;
+          joined = alone (self.old.line + 1);
+          load = None;
+        } }
     {
         self.line += 1;
         self.begun = Begun::new(self.alloc, self.line);

@@ -14,7 +14,8 @@ use gi_outside::{Link, Outbox, Sent};
 
 /// Writes the line that answers the line of this number. The text is gathered in a buffer of 4,096
 /// bytes, which is written when it is full and at the end; this takes no memory. After `Failed` a
-/// front of the text was written that lacks its last byte, and the link's count of failed writes rose.
+/// front of the text was written that lacks its last byte, and the link's count of failed writes
+/// rose.
 pub fn write_reply<L: Link>(line: u64, reply: &Reply, link: &mut L) -> Sent
     requires { is_answer reply.now ≡ true }
     ensures { Sends result (L.state link.old) (L.state link.new) (text line reply.now) }
@@ -136,7 +137,7 @@ fn put_status<L: Link>(outbox: &mut Outbox, serial: u64, status: Status, link: &
 }
 
 // Puts a word, and a number.
-fn put_numbered<L: Link>(outbox: &mut Outbox, word: &[u8], number: u64, link: &mut L)
+pub(crate) fn put_numbered<L: Link>(outbox: &mut Outbox, word: &[u8], number: u64, link: &mut L)
     ensures { (start : World) (before : List ℕ) → Stands start (L.state link.old) outbox.old before
         → Stands start (L.state link.new) outbox.new (before ++ (word.now ++ decimal number)) }
 {
@@ -147,7 +148,8 @@ fn put_numbered<L: Link>(outbox: &mut Outbox, word: &[u8], number: u64, link: &m
 // Puts a word, and a list of literals.
 fn put_listed<L: Link>(outbox: &mut Outbox, word: &[u8], literals: &Lits, link: &mut L)
     ensures { (start : World) (before : List ℕ) → Stands start (L.state link.old) outbox.old before
-        → Stands start (L.state link.new) outbox.new (before ++ (word.now ++ list_text literals.now)) }
+        → Stands start (L.state link.new) outbox.new
+        (before ++ (word.now ++ list_text literals.now)) }
 {
     outbox.put(word, link);
     put_literals(outbox, literals.as_slice(), link);

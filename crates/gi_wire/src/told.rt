@@ -26,8 +26,9 @@ pub enum ReplyRead {
     NoMemory,
 }
 
-/// The answer that a line tells, without its LF. `Bad` comes exactly where the line is the text of no answer (with single
-/// spaces, and numbers without leading zeros), but for want of memory, which only a line takes whose first word is
+/// The answer that a line tells, without its LF. `Bad` comes exactly where the line is the text of
+/// no answer (with single spaces, and numbers without leading zeros), but for want of memory, which
+/// only a line takes whose first word is
 /// `implied`, `failed`, `reasons`, `model`, `clause` or `unsat`.
 pub fn read_reply(alloc: Global, line: &[u8]) -> ReplyRead
     ensures { ReadsReply result line.now }
