@@ -5,3 +5,5 @@ pub mod Moving
 pub mod Ending
 pub mod Telling
 pub mod Completing
+pub mod Replying
+pub mod Leading

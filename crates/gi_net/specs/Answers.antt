@@ -41,7 +41,8 @@ replies_after asked.Long rs = rs
 -- the items with the replies to their calls, in order
 unfoldable pub answers : List Request → List Reply → List Answer
 answers [] rs = []
-answers (i ∷ is) rs = record { item = i; reply = reply_for i.asked rs } ∷ answers is (replies_after i.asked rs)
+answers (i ∷ is) rs = record { item = i; reply = reply_for i.asked rs }
+    ∷ answers is (replies_after i.asked rs)
 
 abbrev pub text_of : Answer → List ℕ
 text_of a = text a.item.line a.reply

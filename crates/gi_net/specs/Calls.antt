@@ -12,7 +12,8 @@ use Rattle.gi_net.specs.declared.caller.Answered.TheVariants as answered
 use Rattle.gi_net.specs.Entries.{all_own_of, own_of}
 use Rattle.gi_net.specs.Standing.{Standing}
 
--- a reply that a caller's call may have: bye alone is answered bye, and it is, unless the machine is over
+-- a reply that a caller's call may have: bye alone is answered bye, and it is, unless the machine
+-- is over
 pub record IsReplyTo (what : Call) (answer : Reply) : Type 0 where
   pub told : is_answer answer ≡ true
   pub bye : what ≡ call.Bye → (answer ≡ reply.Bye) ⊎ (answer ≡ reply.Refused refusal.Dead)
@@ -31,7 +32,8 @@ pub record Enters (what : Call) (answer : Option Reply) (old new : Standing) : T
   pub before : List Entry
   pub comes_before : ComesBefore old.number what before
   pub number : new.number ≡ old.number
-  pub history : new.history ≡ old.history ++ (before ++ record { by = old.number; call = what; reply = reply } ∷ [])
+  pub history : new.history
+      ≡ old.history ++ (before ++ record { by = old.number; call = what; reply = reply } ∷ [])
   pub left : old.left ≡ new.left + length (all_own_of old.number before) + 1
 
 -- the call has no entry

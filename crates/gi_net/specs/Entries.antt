@@ -20,12 +20,14 @@ own_of number entries = filter (λ e. (e.by == number) && not (is_work e.call)) 
 abbrev pub replies : List Entry → List Reply
 replies entries = map (λ e. e.reply) entries
 
--- behind work comes more work, or the entry of the wait that it was done for; `last` says when nothing comes
+-- behind work comes more work, or the entry of the wait that it was done for; `last` says when
+-- nothing comes
 abbrev pub WaitIsNext : Type 0 → List Entry → Type 0
 WaitIsNext last [] = last
 WaitIsNext last (e ∷ es) = (is_work e.call ≡ true) ⊎ (e.call ≡ Wait)
 
--- a caller's own work stands only right before the own entry of a wait, or at the end where `last` holds
+-- a caller's own work stands only right before the own entry of a wait, or at the end where `last`
+-- holds
 abbrev pub WorksForWaits : Type 0 → List Entry → Type 0
 WorksForWaits last [] = Unit {0}
 WorksForWaits last (e ∷ es) = (is_work e.call ≡ true → WaitIsNext last es) × WorksForWaits last es

@@ -7,3 +7,5 @@ pub mod Session
 pub mod Over
 pub mod MidSession
 pub mod Told
+pub mod Leads
+pub mod Laws

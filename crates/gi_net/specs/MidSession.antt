@@ -14,9 +14,10 @@ use Rattle.gi_net.specs.Entries.{WorksForWaits, all_own_of, own_of, replies}
 use Rattle.gi_net.specs.Served.{IsPrompt, IsQuiet, IsShort}
 use Rattle.gi_net.specs.Standing.{Standing}
 
--- A session so far: what was added to tape and history, the items that were answered, what is ahead of the reader, and
--- what was written. Own work may stand at the end where `last` holds.
-pub record SoFar (last : Type 0) (start now : World) (first here : Standing) (source : Source) (taken : ℕ) (done : List Request) (own : List Entry) (out : List ℕ) : Type 0 where
+-- A session so far: what was added to tape and history, the items that were answered, what is ahead
+-- of the reader, and what was written. Own work may stand at the end where `last` holds.
+pub record SoFar (last : Type 0) (start now : World) (first here : Standing) (source : Source)
+    (taken : ℕ) (done : List Request) (own : List Entry) (out : List ℕ) : Type 0 where
   pub added : List Piece
   pub entries : List Entry
   pub tape : Adds start.tape now.tape added
@@ -30,14 +31,17 @@ pub record SoFar (last : Type 0) (start now : World) (first here : Standing) (so
   pub works : WorksForWaits last (all_own_of first.number entries)
   pub out_is : outs added ≡ out
   pub taken_is : length (ins added) ≡ taken
-  pub items_are : (ended : Bool) (more : List ℕ) → Comes source ended more → items ended (ins added ++ more) ≡ done ++ ahead source ended more
+  pub items_are : (ended : Bool) (more : List ℕ) → Comes source ended more
+      → items ended (ins added ++ more) ≡ done ++ ahead source ended more
   pub calls_are : map (λ e. e.call) own ≡ calls done
   pub prompt : IsPrompt own added
   pub pieces : AllByRecursion IsShort added
 
 -- all answers so far were written, and the session goes on after each of them
-pub record MidSession (start now : World) (first here : Standing) (source : Source) (taken : ℕ) : Type 0 where
+pub record MidSession (start now : World) (first here : Standing) (source : Source)
+    (taken : ℕ) : Type 0 where
   pub done : List Request
   pub own : List Entry
-  pub so_far : SoFar ⊥ start now first here source taken done own (texts (answers done (replies own)))
+  pub so_far : SoFar ⊥ start now first here source taken done own
+      (texts (answers done (replies own)))
   pub quiet : AllByRecursion IsQuiet (answers done (replies own))

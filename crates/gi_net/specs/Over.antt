@@ -27,13 +27,19 @@ pub record IsBehindRead (tape : List Piece) : Type 0 where
 
 -- whatever bytes come behind those taken, reading the item behind those in front takes memory
 pub record NextTakesMemory (bytes : List ℕ) (ended : Bool) (front : List Request) : Type 0 where
-  pub each : (e : Bool) (more : List ℕ) → (ended ≡ true → (e ≡ true) × (more ≡ [])) → TakesMemory (drop (length front) (items e (bytes ++ more)))
+  pub each : (e : Bool) (more : List ℕ) → (ended ≡ true → (e ≡ true) × (more ≡ []))
+      → TakesMemory (drop (length front) (items e (bytes ++ more)))
 
--- What memory was asked for: a call, which was answered `nomem`, or whose caller lacked memory for its entry; the lists, the
--- bytes or the joined lines of the next item; or the bytes that were read last.
+-- What memory was asked for: a call, which was answered `nomem`, or whose caller lacked memory for
+-- its entry; the lists, the bytes or the joined lines of the next item; or the bytes that were read
+-- last.
 abbrev pub Wanted : Type 0 → Type 0 → List Answer → List Piece → Type 0
-Wanted starved next given tape = EndsBy given reply.NoMemory ⊎ (starved ⊎ (next ⊎ IsBehindRead tape))
+Wanted starved next given tape = EndsBy given reply.NoMemory
+    ⊎ (starved ⊎ (next ⊎ IsBehindRead tape))
 
-pub record Over (old new : World) (before after : Standing) (starved : Type 0) (by : How) : Type 0 where
+pub record Over (old new : World) (before after : Standing) (starved : Type 0) (by : How) : Type
+    0 where
   pub session : Session old new before after by
-  pub wanted : by ≡ how.NoMemory → Wanted starved (NextTakesMemory (ins session.added) new.ended session.served.front) (given session) session.added
+  pub wanted : by ≡ how.NoMemory
+      → Wanted starved (NextTakesMemory (ins session.added) new.ended session.served.front)
+      (given session) session.added

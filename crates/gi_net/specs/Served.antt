@@ -55,20 +55,29 @@ pub record CutInNoMemory (given : List Answer) (out : List ℕ) : Type 0 where
   pub is_cut : IsCutFrom cut (text 0 reply.NoMemory)
   pub out_is : out ≡ texts given ++ cut
 
--- How a session ends: whether End came, how many bytes were taken, that the caller's calls are used up, the answers, the
--- items behind them, and what was written.
+-- How a session ends: whether End came, how many bytes were taken, that the caller's calls are used
+-- up, the answers, the items behind them, and what was written.
 abbrev pub SessionEnds : How → Bool → ℕ → Type 0 → List Answer → List Request → List ℕ → Type 0
 SessionEnds how.Bye ended taken used given rest out = EndsByBye given × (out ≡ texts given)
-SessionEnds how.Eof ended taken used given rest out = (ended ≡ true) × (rest ≡ []) × AllByRecursion IsQuiet given × (out ≡ texts given)
-SessionEnds how.Dead ended taken used given rest out = EndsBy given (reply.Refused refusal.Dead) × (out ≡ texts given)
-SessionEnds how.ReadFault ended taken used given rest out = (rest ≡ []) × AllByRecursion IsQuiet given × (out ≡ texts given)
-SessionEnds how.NoMemory ended taken used given rest out = (EndsBy given reply.NoMemory × (out ≡ texts given))
+SessionEnds how.Eof ended taken used given rest out = (ended ≡ true) × (rest ≡ [])
+    × AllByRecursion IsQuiet given × (out ≡ texts given)
+SessionEnds how.Dead ended taken used given rest out = EndsBy given (reply.Refused refusal.Dead)
+    × (out ≡ texts given)
+SessionEnds how.ReadFault ended taken used given rest out = (rest ≡ [])
+    × AllByRecursion IsQuiet given × (out ≡ texts given)
+SessionEnds how.NoMemory ended taken used given rest out =
+    (EndsBy given reply.NoMemory × (out ≡ texts given))
     ⊎ (AllByRecursion IsQuiet given × (out ≡ texts given ++ text 0 reply.NoMemory))
-SessionEnds how.TooMuch ended taken used given rest out = ((2 ^ 62 ≤ taken) ⊎ ((0 < length rest) × used)) × AllByRecursion IsQuiet given × (out ≡ texts given)
-SessionEnds how.WriteFault ended taken used given rest out = CutShort given out ⊎ CutInNoMemory given out
+SessionEnds how.TooMuch ended taken used given rest out =
+    ((2 ^ 62 ≤ taken) ⊎ ((0 < length rest) × used)) × AllByRecursion IsQuiet given
+    × (out ≡ texts given)
+SessionEnds how.WriteFault ended taken used given rest out = CutShort given out
+    ⊎ CutInNoMemory given out
 
--- the bytes taken, whether End came, the caller's calls, that they are used up, the bytes written and the end
-pub record Served (bytes : List ℕ) (ended : Bool) (own : List Entry) (used : Type 0) (out : List ℕ) (how : How) : Type 0 where
+-- the bytes taken, whether End came, the caller's calls, that they are used up, the bytes written
+-- and the end
+pub record Served (bytes : List ℕ) (ended : Bool) (own : List Entry) (used : Type 0) (out : List ℕ)
+    (how : How) : Type 0 where
   -- the items that were answered, and those behind them
   pub front : List Request
   pub rest : List Request
@@ -77,12 +86,15 @@ pub record Served (bytes : List ℕ) (ended : Bool) (own : List Entry) (used : T
   pub calls_are : map (λ e. e.call) own ≡ calls front
   pub ends : SessionEnds how ended (length bytes) used (answers front (replies own)) rest out
 
--- before each In piece, all items of the In pieces before it were answered, each so that the session goes on, and nothing
--- else was written
+-- before each In piece, all items of the In pieces before it were answered, each so that the
+-- session goes on, and nothing else was written
 abbrev pub PromptFrom : List Entry → List ℕ → List ℕ → List Piece → Type 0
 PromptFrom own ins outs [] = Unit {0}
-PromptFrom own ins outs (In bytes ∷ tape) = ((length (calls (items false ins)) ≤ length own) × (outs ≡ texts (answers (items false ins) (replies own)))
-    × AllByRecursion IsQuiet (answers (items false ins) (replies own))) × PromptFrom own (ins ++ bytes) outs tape
+PromptFrom own ins outs (In bytes ∷ tape) =
+    ((length (calls (items false ins)) ≤ length own)
+    × (outs ≡ texts (answers (items false ins) (replies own)))
+    × AllByRecursion IsQuiet (answers (items false ins) (replies own)))
+    × PromptFrom own (ins ++ bytes) outs tape
 PromptFrom own ins outs (Out bytes ∷ tape) = PromptFrom own ins (outs ++ bytes) tape
 
 abbrev pub IsPrompt : List Entry → List Piece → Type 0

@@ -41,7 +41,8 @@ pub record Session (old new : World) (before after : Standing) (by : How) : Type
   pub history : after.history ≡ before.history ++ entries
   -- each own entry takes a call
   pub left : before.left ≡ after.left + length (all_own_of before.number entries)
-  pub served : Served (ins added) new.ended (own_of before.number entries) (after.left ≡ 0) (outs added) by
+  pub served : Served (ins added) new.ended (own_of before.number entries) (after.left ≡ 0)
+      (outs added) by
   pub prompt : IsPrompt (own_of before.number entries) added
   pub pieces : AllByRecursion IsShort added
   -- own work comes from waits alone; at the end it is that of a wait that wasn't answered
@@ -49,11 +50,14 @@ pub record Session (old new : World) (before after : Standing) (by : How) : Type
   pub cause : HasCause by old new
 
 -- the answers of a session
-abbrev pub given : {old new : World} {before after : Standing} {by : How} → Session old new before after by → List Answer
+abbrev pub given : {old new : World} {before after : Standing} {by : How}
+    → Session old new before after by → List Answer
 given {before = before} s = answers s.served.front (replies (own_of before.number s.entries))
 
--- the premises of a complete session: no fault, no want of memory, not too many bytes, no call to a machine that is over, calls left
-pub record Undisturbed (old new : World) (before after : Standing) (by : How) (s : Session old new before after by) : Type 0 where
+-- the premises of a complete session: no fault, no want of memory, not too many bytes, no call to a
+-- machine that is over, calls left
+pub record Undisturbed (old new : World) (before after : Standing) (by : How)
+    (s : Session old new before after by) : Type 0 where
   pub reads : ¬ Rose old.failed_reads new.failed_reads
   pub writes : ¬ Rose old.failed_writes new.failed_writes
   pub memory : by ≢ how.NoMemory
@@ -62,7 +66,8 @@ pub record Undisturbed (old new : World) (before after : Standing) (by : How) (s
   pub calls : 0 < after.left
 
 -- every item up to bye, or up to the end, was answered, and nothing else was written
-pub record IsComplete (old new : World) (before after : Standing) (by : How) (s : Session old new before after by) : Type 0 where
+pub record IsComplete (old new : World) (before after : Standing) (by : How)
+    (s : Session old new before after by) : Type 0 where
   pub ends : (by ≡ how.Bye) ⊎ (by ≡ how.Eof)
   pub answered : (s.served.rest ≡ []) ⊎ EndsByBye (given s)
   pub out : outs s.added ≡ texts (given s)

@@ -46,7 +46,8 @@ AnswersRequest (asked.Call what) r = IsReplyTo what r × (is_work what ≡ false
 AnswersRequest asked.Syntax r = r ≡ reply.Refused refusal.Syntax
 AnswersRequest asked.Long r = r ≡ reply.Refused refusal.Long
 
--- an item was answered: a call by the entry of the caller of this number, and what is no call by none
+-- an item was answered: a call by the entry of the caller of this number, and what is no call by
+-- none
 pub record TookAs (n : ℕ) (item : RequestKind) (r : Reply) (old new : Standing) : Type 0 where
   pub may_be : AnswersRequest item r
   pub before : List Entry
@@ -78,12 +79,16 @@ pub record Unanswered (item : Request) (h k : Standing) : Type 0 where
   pub asked_is : item.asked ≡ asked.Call what
   pub breaks : BreaksOff what h k
 
--- what answering an item does; a call has no entry where its caller lacked memory, or had no call left
-abbrev pub AnswersItem : Option How → Request → Standing → Standing → Type 0 → World → World → Type 0
+-- what answering an item does; a call has no entry where its caller lacked memory, or had no call
+-- left
+abbrev pub AnswersItem : Option How → Request → Standing → Standing → Type 0 → World → World
+    → Type 0
 AnswersItem None item h k starved v w = Told None item h k v w
-AnswersItem (Some how.WriteFault) item h k starved v w = ToldCut item h k v w ⊎ (Unanswered item h k × starved × WroteCut v w (text 0 reply.NoMemory))
+AnswersItem (Some how.WriteFault) item h k starved v w = ToldCut item h k v w
+    ⊎ (Unanswered item h k × starved × WroteCut v w (text 0 reply.NoMemory))
 AnswersItem (Some how.TooMuch) item h k starved v w = Unanswered item h k × (k.left ≡ 0) × (w ≡ v)
-AnswersItem (Some how.NoMemory) item h k starved v w = Told (Some how.NoMemory) item h k v w ⊎ (Unanswered item h k × starved × Wrote v w (text 0 reply.NoMemory))
+AnswersItem (Some how.NoMemory) item h k starved v w = Told (Some how.NoMemory) item h k v w
+    ⊎ (Unanswered item h k × starved × Wrote v w (text 0 reply.NoMemory))
 AnswersItem (Some by) item h k starved v w = Told (Some by) item h k v w
 
 -- `nomem` was written, or a front of it

@@ -1,4 +1,5 @@
-//! A session over a link: calls come as lines, and each is answered by one line before more is read.
+//! A session over a link: calls come as lines, and each is answered by one line before more is
+//! read.
 #![tactic(auto)]
 
 mod caller;
@@ -8,5 +9,5 @@ mod session;
 
 pub use caller::{Answered, Caller};
 pub use how::How;
-pub use laws::undisturbed_is_whole;
-pub use session::serve_one;
+pub use laws::{allowed_is_reply, undisturbed_is_whole};
+pub use session::{serve_calls, serve_one};

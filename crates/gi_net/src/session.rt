@@ -5,6 +5,7 @@ ghost use Rattle.gi_outside.specs.World.{World};
 ghost use Rattle.gi_wire.specs.Gives.{MayBeAsked};
 ghost use Rattle.gi_wire.specs.Source.{ahead, last_line};
 ghost use Rattle.gi_wire.specs.Text.{is_answer};
+ghost use Rattle.gi_net.specs.Leads.{Leads};
 ghost use Rattle.gi_net.specs.MidSession.{MidSession};
 ghost use Rattle.gi_net.specs.Over.{Over};
 ghost use Rattle.gi_net.specs.Standing.{Standing};
@@ -24,12 +25,16 @@ const MOST_BYTES: u64 = 1 << 62;
 // The most bytes that one read asks for.
 const PIECE: usize = 4096;
 
-/// Serves a link: each item of its input, which is a line with all that is joined to it or a load with the bytes behind its
-/// line, is a call by `caller` or refused, and its answer is written. It reads at most 4,096 bytes at a time, answers every
-/// whole item before the next read, and reads nothing once the session is over. It asks for memory only for the bytes that it
-/// reads, for the lists of guards and literals, the joined lines and the bytes of loads, and for the caller's entries.
-pub fn serve_one<C: Caller, L: Link>(alloc: Global, caller: &mut C, link: &mut L) -> How
-    ensures { Over (L.state link.old) (L.state link.new) (C.standing caller.old) (C.standing caller.new) (Rose (C.starved caller.old) (C.starved caller.new)) result }
+/// Serves a link: each item of its input, which is a line with all that is joined to it or a load
+/// with the bytes behind its line, is a call by `caller` or refused, and its answer is written. It
+/// reads at most 4,096 bytes at a time, answers every whole item before the next read, and reads
+/// nothing once the session is over. It asks for memory only for the bytes that it reads, for the
+/// lists of guards and literals, the joined lines and the bytes of loads, and for the caller's
+/// entries.
+pub fn serve_calls<C: Caller, L: Link>(alloc: Global, caller: &mut C, link: &mut L) -> How
+    ensures over { Over (L.state link.old) (L.state link.new) (C.standing caller.old)
+        (C.standing caller.new) (Rose (C.starved caller.old) (C.starved caller.new)) result }
+    ensures led { Leads C.kept caller.old caller.new }
 {
     let mut reader = Reader::new(alloc);
     let mut taken = 0u64;
@@ -46,6 +51,14 @@ pub fn serve_one<C: Caller, L: Link>(alloc: Global, caller: &mut C, link: &mut L
     How::TooMuch
 }
 
+/// The same, where nothing is to be known of the caller but its standing.
+pub fn serve_one<C: Caller, L: Link>(alloc: Global, caller: &mut C, link: &mut L) -> How
+    ensures { Over (L.state link.old) (L.state link.new) (C.standing caller.old)
+        (C.standing caller.new) (Rose (C.starved caller.old) (C.starved caller.new)) result }
+{
+    serve_calls(alloc, caller, link)
+}
+
 // Reads a piece.
 fn read_more<L: Link>(link: &mut L, reader: &mut Reader, taken: &mut u64) -> Option<How>
     requires room { taken.old < 2 ^ 62 }
@@ -53,10 +66,13 @@ fn read_more<L: Link>(link: &mut L, reader: &mut Reader, taken: &mut u64) -> Opt
     requires open { reader.old.lines.ended ≡ false }
     ensures ended { IfNone result ((L.state link.new).ended ≡ reader.new.lines.ended) }
     ensures most { IfNone result (taken.new ≤ taken.old + 4096) }
-    ensures count { IfNone result (last_line reader.new + taken.old ≤ last_line reader.old + taken.new) }
+    ensures count { IfNone result
+        (last_line reader.new + taken.old ≤ last_line reader.old + taken.new) }
     ensures grows { IfNone result (reader.new.lines.ended ≡ false → taken.old < taken.new) }
-    ensures session { (start : World) (first here : Standing) (before now : ℕ) → MidSession start (L.state link.old) first here reader.old taken.old
-        → MatchOption result (MidSession start (L.state link.new) first here reader.new taken.new) (λ by. Over start (L.state link.new) first here (Rose before now) by) }
+    ensures session { (start : World) (first here : Standing) (before now : ℕ)
+        → MidSession start (L.state link.old) first here reader.old taken.old
+        → MatchOption result (MidSession start (L.state link.new) first here reader.new taken.new)
+        (λ by. Over start (L.state link.new) first here (Rose before now) by) }
 {
     let mut buffer = [0u8; PIECE];
     match link.read(&mut buffer) {
@@ -82,14 +98,20 @@ fn answer_items<C: Caller, L: Link>(
     reader: &mut Reader,
 ) -> Option<How>
     requires { last_line reader.old < 2 ^ 63 }
-    ensures none { IfNone result ((ahead reader.new false [] ≡ []) × (reader.new.lines.ended ≡ false)) }
-    ensures ended { IfNone result (((L.state link.new).ended ≡ (L.state link.old).ended) × (reader.new.lines.ended ≡ reader.old.lines.ended)) }
+    ensures none { IfNone result
+        ((ahead reader.new false [] ≡ []) × (reader.new.lines.ended ≡ false)) }
+    ensures ended { IfNone result
+        (((L.state link.new).ended ≡ (L.state link.old).ended)
+        × (reader.new.lines.ended ≡ reader.old.lines.ended)) }
     ensures count { IfNone result (last_line reader.new ≤ last_line reader.old) }
     ensures starved { C.starved caller.old ≤ C.starved caller.new }
-    ensures session { (start : World) (first : Standing) (before taken : ℕ) → (L.state link.old).ended ≡ reader.old.lines.ended → before ≤ C.starved caller.old
+    ensures session { (start : World) (first : Standing) (before taken : ℕ)
+        → (L.state link.old).ended ≡ reader.old.lines.ended → before ≤ C.starved caller.old
         → MidSession start (L.state link.old) first (C.standing caller.old) reader.old taken
-        → MatchOption result (MidSession start (L.state link.new) first (C.standing caller.new) reader.new taken)
+        → MatchOption result (MidSession start (L.state link.new) first (C.standing caller.new)
+        reader.new taken)
         (λ by. Over start (L.state link.new) first (C.standing caller.new) (Rose before (C.starved caller.new)) by) }
+    ensures led { Leads C.kept caller.old caller.new }
 {
     'items: loop {
         match reader.next_item() {
@@ -107,8 +129,10 @@ fn answer_items<C: Caller, L: Link>(
 // Answers one item.
 fn answer<C: Caller, L: Link>(caller: &mut C, link: &mut L, item: Request) -> Option<How>
     requires { MayBeAsked item.asked }
-    ensures item { AnswersItem result item (C.standing caller.old) (C.standing caller.new) (Rose (C.starved caller.old) (C.starved caller.new)) (L.state link.old) (L.state link.new) }
+    ensures item { AnswersItem result item (C.standing caller.old) (C.standing caller.new)
+        (Rose (C.starved caller.old) (C.starved caller.new)) (L.state link.old) (L.state link.new) }
     ensures starved { C.starved caller.old ≤ C.starved caller.new }
+    ensures led { Leads C.kept caller.old caller.new }
 {
     let Request { line, asked } = item;
     match asked {
@@ -126,9 +150,11 @@ fn answer_call<C: Caller, L: Link>(
     call: Call,
 ) -> Option<How>
     requires { fits call ≡ true }
-    ensures item { AnswersItem result (record { line = line; asked = asked.Call call }) (C.standing caller.old) (C.standing caller.new)
+    ensures item { AnswersItem result (record { line = line; asked = asked.Call call })
+        (C.standing caller.old) (C.standing caller.new)
         (Rose (C.starved caller.old) (C.starved caller.new)) (L.state link.old) (L.state link.new) }
     ensures starved { C.starved caller.old ≤ C.starved caller.new }
+    ensures kept { C.kept caller.old caller.new }
 {
     match caller.call(call) {
         Answered::Recorded => tell(link, line, caller.reply()),

@@ -1,10 +1,12 @@
 use Rattle.std.proofs.Common.{◌≡◌, ◌+◌, ◌-◌, ◌^◌, ◌<◌, ◌≤◌, [], false}
 use Rattle.gi_wire.specs.Source.{ahead, last_line}
+use Rattle.gi_net.specs.Leads.{Leads}
 use Rattle.gi_net.specs.MidSession.{MidSession}
-use Rattle.gi_net.proofs.session.serve_one.Given as goal
+use Rattle.gi_net.proofs.session.serve_calls.Given as goal
 
 abbrev pub invariant-session : goal.invariant-session
 invariant-session g l = record {
+  led : Leads g.C.Caller.kept l.fn.caller l.caller;
   whole : ahead l.reader false [] ≡ [];
   open_is : l.reader.lines.ended ≡ false;
   link_end : 0 < l.taken → (g.L.Link.state l.link).ended ≡ false;
