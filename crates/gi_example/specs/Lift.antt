@@ -1,7 +1,8 @@
 -- The lift's literals.
 use Rattle.std.specs.Prelude.{◌≡◌, ℕ, ◌+◌, ◌*◌, ◌≤◌}
 
--- 'the lift is at that floor after so many steps': the positive literal of a variable for each time and floor
+-- 'the lift is at that floor after so many steps': the positive literal of a variable for each time
+-- and floor
 abbrev pub at_floor : (steps floor : ℕ) → ℕ
 at_floor steps floor = 2 * (4 * steps + floor)
 

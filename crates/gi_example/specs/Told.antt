@@ -12,7 +12,9 @@ use Rattle.gi_example.specs.declared.found.Found.TheVariants.{Model, Failed}
 abbrev pub HasEdited : (Problem → Problem) → State → State → Type 0
 HasEdited edit old new = new ≡ with_problem (edit old.problem) old
 
--- a model is of values that satisfy the plain clauses; assumptions that fail do so with the clauses under the guards among them
+-- a model is of values that satisfy the plain clauses; assumptions that fail do so with the clauses
+-- under the guards among them
 abbrev pub IsTrueOf : Problem → Found → Type 0
-IsTrueOf p (Model literals) = (values : List Bool) × Satisfies values p.plain × (literals ≡ model_of p values)
+IsTrueOf p (Model literals) = (values : List Bool) × Satisfies values p.plain
+    × (literals ≡ model_of p values)
 IsTrueOf p (Failed literals) = Fail (in_force p literals) literals

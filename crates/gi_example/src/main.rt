@@ -1,7 +1,9 @@
-//! A planner over the library: in how few steps does a lift come from floor 1 to the top floor, a floor a step at most?
+//! A planner over the library: in how few steps does a lift come from floor 1 to the top floor, a
+//! floor a step at most?
 //!
-//! It asks for 0 steps, then for 1, and so on. What holds of every plan is plain clauses; that the top floor is reached
-//! after so many steps is a clause under a guard, which is dropped where there is no such plan.
+//! It asks for 0 steps, then for 1, and so on. What holds of every plan is plain clauses; that the
+//! top floor is reached after so many steps is a clause under a guard, which is dropped where there
+//! is no such plan.
 #![tactic(auto)]
 
 ghost use Rattle.std.specs.Prelude.{◌≤◌};

@@ -74,7 +74,8 @@ impl Planner {
 
     /// A clause that counts only where the guard is assumed.
     pub fn add_under(&mut self, guard: Var, clause: &[Lit]) -> Result<(), Fault>
-        ensures { OnOk result (HasEdited (with_group (guard ∷ []) clause.now) self.old.core self.new.core) }
+        ensures { OnOk result (HasEdited (with_group (guard ∷ []) clause.now) self.old.core
+            self.new.core) }
     {
         let guards = Guards::of(self.alloc, &[guard])?;
         let clause = Lits::of(self.alloc, clause)?;
@@ -102,7 +103,8 @@ impl Planner {
 
     // Whether a solve is running.
     fn is_live(&self) -> bool
-        ensures { MatchBool result (phase_of self.now.core ≡ Phase.Live) (phase_of self.now.core ≢ Phase.Live) }
+        ensures { MatchBool result (phase_of self.now.core ≡ Phase.Live)
+            (phase_of self.now.core ≢ Phase.Live) }
     {
         matches!(self.core.phase(), Phase::Live)
     }
