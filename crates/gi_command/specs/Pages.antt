@@ -35,4 +35,5 @@ page_text Version = VERSION.now
 
 -- the page was printed, or was cut by a fault
 abbrev pub PrintsPage : Page → World → World → ℕ → Type 0
-PrintsPage page old new status = ((status ≡ 0) × Wrote old new (page_text page)) ⊎ ((status ≡ 5) × WroteCut old new (page_text page))
+PrintsPage page old new status = ((status ≡ 0) × Wrote old new (page_text page))
+    ⊎ ((status ≡ 5) × WroteCut old new (page_text page))

@@ -20,7 +20,8 @@ budget_rule = record (new_rule (codes "budget")) { long = Some (codes "budget");
 
 -- a program without its name as first word, and without a help of its own
 abbrev pub bare_program : App
-bare_program = on_top (λ s. record s { no_binary_name = true; disable_help_flag = true }) (new_app (codes "gi_tool"))
+bare_program = on_top (λ s. record s { no_binary_name = true; disable_help_flag = true })
+    (new_app (codes "gi_tool"))
 
 -- the simple command of these
 unfoldable pub program : App

@@ -3,8 +3,8 @@ use gi_files::Form;
 /// What the program is asked for.
 #[derive(Clone, Copy, Debug, PartialEq, Eq)]
 pub enum Command {
-    /// A session.
-    Run,
+    /// A session, with a worker beside it unless it is to be quiet.
+    Run { quiet: bool },
     /// The counts of an input.
     Check(Form),
     /// The canonical text of an input.

@@ -6,7 +6,7 @@ The input comes from standard input; no word names a file.
 
 Usage: gi_tool COMMAND < INPUT
 
-  run [-q]                     reads a session, a call a line, and prints an answer a line
+  run [-q]                     reads a session, a call a line, and prints an answer a line; a worker solves beside it, with -q none does
   solve cnf|icnf [--budget N]  reads a file of that form and prints, for each solve, `s SATISFIABLE` with a model in `v` lines, `s UNSATISFIABLE`, or `s UNKNOWN` where N learnt clauses (1 to 4294967295) were not enough
   check cnf|icnf               reads a file of that form and prints its counts: `cnf VARIABLES CLAUSES`, `icnf VARIABLES CLAUSES ASKS`
   convert cnf|icnf             reads a file of that form and prints its canonical text
@@ -23,7 +23,7 @@ Exit codes:
   3   want of memory
   4   a read failed
   5   a write failed
-  8   too much: 2^62 bytes were read, or the machine's 2^56 calls were used up
+  8   too much: 2^62 bytes were read, or the calls were used up: a session has at least 2^54
   9   the machine is over: its session goes on behind its end, or its work found no memory
 
 A session, with its answers at the right:

@@ -15,8 +15,8 @@ pub enum Page {
     Version,
 }
 
-/// The page that words ask for, if they ask for one: the words' only option is `--help` or `-h`, or `--version` or `-V`. An
-/// option is a word that begins with `-`.
+/// The page that words ask for, if they ask for one: the words' only option is `--help` or `-h`, or
+/// `--version` or `-V`. An option is a word that begins with `-`.
 pub fn page_asked(words: &[String]) -> Option<Page>
     ensures { result ≡ page_asked (map (λ word. string_bytes word) words.now) }
 {
@@ -64,7 +64,8 @@ fn page_named(word: &[u8]) -> Option<Page>
     None
 }
 
-/// Prints a page, and gives the exit status: 0, or 5 where a write failed, and then the page lacks its last byte at least.
+/// Prints a page, and gives the exit status: 0, or 5 where a write failed, and then the page lacks
+/// its last byte at least.
 pub fn print_page<L: Link>(page: Page, user: &mut L) -> u8
     ensures { PrintsPage page (L.state user.old) (L.state user.new) result }
 {

@@ -8,7 +8,8 @@ use clap::error::ErrorKind;
 use clap::{Arg, ArgAction, ArgMatches, Command};
 use std::alloc::{AllocError, Global};
 
-/// The simple command: words, the flag `-q`, and the option `--budget` with a value. It has no help of its own.
+/// The simple command: words, the flag `-q`, and the option `--budget` with a value. It has no help
+/// of its own.
 fn simple_command<'a>(alloc: Global) -> Result<Command<'a>, AllocError>
     ensures { IfOk result (λ made. app_of made ≡ program) }
 {

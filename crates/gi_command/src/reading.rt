@@ -13,10 +13,12 @@ use gi_files::Form;
 use gi_text::{Number, read_number};
 use std::alloc::{AllocError, Global};
 
-/// The command that the words are, if they are one. They are read by `clap` as words, the flag `-q` and the option `--budget`,
-/// in any order; what was read is a command exactly where it is a line of the table of commands.
+/// The command that the words are, if they are one. They are read by `clap` as words, the flag `-q`
+/// and the option `--budget`, in any order; what was read is a command exactly where it is a line
+/// of the table of commands.
 pub fn read_words(alloc: Global, words: &[String]) -> Result<Option<Command>, AllocError>
-    ensures command { IfOk result (λ command. command ≡ command_of (map (λ word. string_bytes word) words.now)) }
+    ensures command { IfOk result
+        (λ command. command ≡ command_of (map (λ word. string_bytes word) words.now)) }
     ensures range { IfOk result (λ command. IfSome command IsInRange) }
 {
     match parse(alloc, words)? {
@@ -46,31 +48,34 @@ fn is_quiet(matches: &ArgMatches) -> bool
 
 // The command of words, with `-q` or without it, and with the value of `--budget`.
 fn line_of(words: &[&str], quiet: bool, budget: Option<&str>) -> Option<Command>
-    ensures command { result ≡ command_at (map (λ word. word.now) words.now) quiet (option_map (λ value. value.now) budget.entry) }
+    ensures command { result ≡ command_at (map (λ word. word.now) words.now) quiet
+        (option_map (λ value. value.now) budget.entry) }
     ensures range { IfSome result IsInRange }
 {
     match words {
-        [name] => read_one(name, budget),
+        [name] => read_one(name, quiet, budget),
         [name, word] => read_line(name, word, quiet, budget),
         _ => None,
     }
 }
 
-// A name alone.
+// A name alone, with `-q` or without it.
 #[tactic(auto, unfolding(crate::specs::Words::one_word))]
-fn read_one(name: &str, budget: Option<&str>) -> Option<Command>
-    ensures command { result ≡ one_word name.now (option_map (λ value. value.now) budget.entry) }
+fn read_one(name: &str, quiet: bool, budget: Option<&str>) -> Option<Command>
+    ensures command { result ≡ one_word name.now quiet
+        (option_map (λ value. value.now) budget.entry) }
     ensures range { IfSome result IsInRange }
 {
     match budget {
         Some(_) => None,
-        None => (name.as_bytes() == b"run".as_slice()).then_some(Command::Run),
+        None => (name.as_bytes() == b"run".as_slice()).then_some(Command::Run { quiet }),
     }
 }
 
 // A name with a word behind it, with `-q` or without it, and with the value of `--budget`.
 fn read_line(name: &str, word: &str, quiet: bool, budget: Option<&str>) -> Option<Command>
-    ensures command { result ≡ two_at name.now word.now quiet (option_map (λ value. value.now) budget.entry) }
+    ensures command { result ≡ two_at name.now word.now quiet
+        (option_map (λ value. value.now) budget.entry) }
     ensures range { IfSome result IsInRange }
 {
     if quiet {

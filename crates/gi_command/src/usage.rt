@@ -19,8 +19,9 @@ fn usage_at(place: usize) -> &'static str {
     }
 }
 
-/// The usage of the command that words that are no command come nearest to: the one whose name shares the longest beginning,
-/// at least a letter, with the first word that is no option; where none does, one for all.
+/// The usage of the command that words that are no command come nearest to: the one whose name
+/// shares the longest beginning, at least a letter, with the first word that is no option; where
+/// none does, one for all.
 pub fn usage_of(words: &[String]) -> &'static str {
     for word in words {
         if !word.as_str().starts_with('-') {

@@ -34,7 +34,8 @@ fn try_words(rt: &HostRuntime, alloc: Global) -> io::Result<Vec<String>> {
     Ok(words)
 }
 
-// What it is where the words can't be taken: by its kind, a word that isn't UTF-8 (`InvalidData`), or want of memory.
+// What it is where the words can't be taken: by its kind, a word that isn't UTF-8 (`InvalidData`),
+// or want of memory.
 fn without_words(error: &io::Error) -> Words
     ensures text { error_kind error.now ≡ ErrorKind.InvalidData → result ≡ NotText }
     ensures memory { error_kind error.now ≢ ErrorKind.InvalidData → result ≡ NoMemory }
