@@ -14,6 +14,7 @@ PrintsAsked None old new status = (status ≡ 2) × (new ≡ old)
 
 -- the page that the words ask for was printed; words that can't be taken ask for none
 abbrev pub AnswersWords : Words → World → World → ℕ → Type 0
-AnswersWords (Taken words) old new status = PrintsAsked (page_asked (map (λ word. string_bytes word) words.items)) old new status
+AnswersWords (Taken words) old new status =
+    PrintsAsked (page_asked (map (λ word. string_bytes word) words.items)) old new status
 AnswersWords NotText old new status = (status ≡ 2) × (new ≡ old)
 AnswersWords NoMemory old new status = (status ≡ 2) × (new ≡ old)
