@@ -38,29 +38,25 @@ module _ (b : ℕ) (t : Told) (news known : List (List ℕ)) (v : Solving) (n : 
   abbrev s : State
   s = state_of t known v n
 
+  -- a call that isn't refused, and has one answer
+  advances_by : (c : Call) (r answer : Reply) (stage : Stage) → refuses s c ≡ None → Allows s c r → (Answers s c r → r ≡ answer) → is_proper c answer ≡ true
+      → Mirror b stage (told_on t c) (news_on news answer) (n + 1) (after s c answer) → Advances b stage t news (n + 1) s c r
+  advances_by c r answer stage passes a only proper mirrors = elim (replied s c r passes a) [
+    | inr none ↦ inl none
+    | inl is ↦ inr (subst (λ (x : Reply). (is_proper c x ≡ true) × Mirror b stage (told_on t c) (news_on news x) (n + 1) (after s c x)) (sym (only is)) (proper, mirrors))
+  ]
+
   vars_advance : (k : ℕ) (r : Reply) → IsQuiet v → k ≤ max_var → Allows s (call.Vars k) r → Advances b Resting t news (n + 1) s (call.Vars k) r
   unfolding after
-  vars_advance k r q le a = elim (replied s (call.Vars k) r (vars_pass t known n v k q le) a) [
-    | inr none ↦ inl none
-    | inl is ↦ inr (subst (λ (x : Reply). (is_proper (call.Vars k) x ≡ true) × Mirror b Resting (told_on t (call.Vars k)) (news_on news x) (n + 1) (after s (call.Vars k) x)) (sym is)
-        (refl, record { known = known; solve = edited v; serial = n; is = refl; at = edited_rests b (told_on t (call.Vars k)) news known v q; few = omega arith }))
-  ]
+  vars_advance k r q le a = advances_by (call.Vars k) r _ Resting (vars_pass t known n v k q le) a (λ is. is) refl (record { known = known; solve = edited v; serial = n; is = refl; at = edited_rests b (told_on t (call.Vars k)) news known v q; few = omega arith })
 
   add_advances : (c : List ℕ) (r : Reply) → IsQuiet v → MayBe t (Clause c) → Allows s (call.Add c) r → Advances b Resting t news (n + 1) s (call.Add c) r
   unfolding after
-  add_advances c r q may a = elim (replied s (call.Add c) r (add_passes t known n v c q may) a) [
-    | inr none ↦ inl none
-    | inl is ↦ inr (subst (λ (x : Reply). (is_proper (call.Add c) x ≡ true) × Mirror b Resting (told_on t (call.Add c)) (news_on news x) (n + 1) (after s (call.Add c) x)) (sym is)
-        (refl, record { known = known; solve = edited v; serial = n; is = refl; at = edited_rests b (told_on t (call.Add c)) news known v q; few = omega arith }))
-  ]
+  add_advances c r q may a = advances_by (call.Add c) r _ Resting (add_passes t known n v c q may) a (λ is. is) refl (record { known = known; solve = edited v; serial = n; is = refl; at = edited_rests b (told_on t (call.Add c)) news known v q; few = omega arith })
 
   assume_advances : (ls : List ℕ) (r : Reply) → IsQuiet v → MayBe t (Assume ls) → Allows s (call.Assume ls) r → Advances b Resting t news (n + 1) s (call.Assume ls) r
   unfolding after
-  assume_advances ls r q may a = elim (replied s (call.Assume ls) r (assume_passes t known n v ls q may) a) [
-    | inr none ↦ inl none
-    | inl is ↦ inr (subst (λ (x : Reply). (is_proper (call.Assume ls) x ≡ true) × Mirror b Resting (told_on t (call.Assume ls)) (news_on news x) (n + 1) (after s (call.Assume ls) x)) (sym is)
-        (refl, record { known = known; solve = edited v; serial = n; is = refl; at = edited_rests b (told_on t (call.Assume ls)) news known v q; few = omega arith }))
-  ]
+  assume_advances ls r q may a = advances_by (call.Assume ls) r _ Resting (assume_passes t known n v ls q may) a (λ is. is) refl (record { known = known; solve = edited v; serial = n; is = refl; at = edited_rests b (told_on t (call.Assume ls)) news known v q; few = omega arith })
 
   started_at : IsAt b Going (told_on t (call.Solve b)) [] (trimmed known) (running (record { serial = n + 1; assumed = scope_assumed [] ++ t.pending; budget = b; spent = 0; slices = 0 }))
   unfolding scope_assumed
@@ -74,11 +70,8 @@ module _ (b : ℕ) (t : Told) (news known : List (List ℕ)) (v : Solving) (n : 
 
   solve_advances : (r : Reply) → IsQuiet v → n < 2 ^ 56 → Allows s (call.Solve b) r → Advances b Going t news (n + 1) s (call.Solve b) r
   unfolding after
-  solve_advances r q lt a = elim (replied s (call.Solve b) r (solve_passes t known n v b q lt) a) [
-    | inr none ↦ inl none
-    | inl is ↦ inr (subst (λ (x : Reply). (is_proper (call.Solve b) x ≡ true) × Mirror b Going (told_on t (call.Solve b)) (news_on news x) (n + 1) (after s (call.Solve b) x)) (sym is)
-        (refl, record { known = trimmed known; solve = running (record { serial = n + 1; assumed = scope_assumed [] ++ t.pending; budget = b; spent = 0; slices = 0 }); serial = n + 1; is = refl; at = started_at; few = omega arith }))
-  ]
+  solve_advances r q lt a = advances_by (call.Solve b) r _ Going (solve_passes t known n v b q lt) a (λ is. is) refl
+      (record { known = trimmed known; solve = running (record { serial = n + 1; assumed = scope_assumed [] ++ t.pending; budget = b; spent = 0; slices = 0 }); serial = n + 1; is = refl; at = started_at; few = omega arith })
 
 -- a wait comes only once the solve has ended
 pub ended_at : (b : ℕ) (t : Told) (news known : List (List ℕ)) (v : Solving) (n : ℕ) → IsAt b Going t news known v → live_run (state_of t known v n) ≡ None → (m : ℕ) × (w : Verdict) × (v ≡ ended m w) × EndsSo b t news known w

@@ -1,16 +1,15 @@
 -- A whole file, from its bytes to the last answer.
-use Rattle.std.proofs.Common.{ℕ, List, Result, Ok, Err, refl, inl, inr, subst, sym}
+use Rattle.std.proofs.Common.{◌≡◌, ℕ, List, Result, Ok, Err, refl, inl, inr, subst, sym}
 use Rattle.gi_outside.specs.World.{World}
 use Rattle.gi_dimacs.specs.Answers.{IsFault}
-use Rattle.gi_dimacs.specs.declared.cnf.Cnf.{Cnf}
-use Rattle.gi_dimacs.specs.declared.cnf.Icnf.{Icnf}
+use Rattle.gi_dimacs.specs.Content.{File}
+use Rattle.gi_dimacs.specs.Relation.{IsFile}
+use Rattle.gi_dimacs.specs.declared.content.Format.{Format}
 use Rattle.gi_dimacs.specs.declared.fault.CnfFault.{CnfFault}
 use Rattle.gi_files.specs.Commands.{format_of}
-use Rattle.gi_files.specs.Input.{IsAll, ReadsCnf, ReadsIcnf}
+use Rattle.gi_files.specs.Input.{IsAll, Reads}
 use Rattle.gi_files.specs.declared.form.Form.{Form}
-use Rattle.gi_files.specs.declared.form.Form.TheVariants as forms
-use Rattle.gi_files.specs.declared.reading.CnfInput.TheVariants as cnf
-use Rattle.gi_files.specs.declared.reading.IcnfInput.TheVariants as icnf
+use Rattle.gi_files.specs.declared.reading.FileInput.TheVariants as input
 use Rattle.gi_net.specs.Standing.{Standing}
 use Rattle.gi_batch.specs.declared.answer.Answer.{Answer}
 use Rattle.gi_batch.specs.declared.answer.Answer.TheVariants as answers
@@ -18,7 +17,7 @@ use Rattle.gi_batch.specs.declared.answer.Stop.{Stop}
 use Rattle.gi_batch.specs.declared.answer.Stop.TheVariants as stops
 use Rattle.gi_batch.specs.declared.answer.Solved.{Solved}
 use Rattle.gi_batch.specs.declared.answer.Solved.TheVariants as solved
-use Rattle.gi_batch.specs.Steps.{BatchStep, HasSteps, cnf_steps, icnf_steps}
+use Rattle.gi_batch.specs.Steps.{BatchStep, HasSteps}
 use Rattle.gi_batch.specs.Done.{Goes}
 use Rattle.gi_batch.specs.Solves.{SolveEnds, PrintsRefusal, Solves, solved_of}
 
@@ -46,33 +45,18 @@ module _ (form : Form) (budget : ℕ) (old mid new : World) (h k : Standing) (by
   ends_refused solved.TooMuch fault all is none = absurd none
   ends_refused solved.Denied fault all is none = absurd none
 
-module _ (budget : ℕ) (old mid : World) (h : Standing) where
-  pub cnf_solves : (v : Cnf) (new : World) (k : Standing) (r : Result Answer Stop) → ReadsCnf (cnf.Cnf v) old mid → Goes r budget (cnf_steps v) mid new h k answers.Unknown → Solves (solved_of r) forms.Cnf budget old new h k
-  cnf_solves v new k r read goes = record { bytes = read.bytes; mid = mid; gave = read.gave; bounded = read.bounded; ends = ends_file forms.Cnf budget old mid new h k read.bytes r (cnf_steps v) read.is.0 (v, read.is.1, refl) goes }
+module _ {V : Type 0} (format : Format) (file : V → File) (form : Form) (budget : ℕ) (old mid : World) (h : Standing) where
+  pub file_solves : (v : V) (steps : List BatchStep) → ((bytes : List ℕ) → IsFile (file v) bytes → HasSteps form bytes steps) → (new : World) (k : Standing) (r : Result Answer Stop) → Reads format file (input.Value v) old mid → Goes r budget steps mid new h k answers.Unknown → Solves (solved_of r) form budget old new h k
+  file_solves v steps has new k r read goes = record { bytes = read.bytes; mid = mid; gave = read.gave; bounded = read.bounded; ends = ends_file form budget old mid new h k read.bytes r steps read.is.0 (has read.bytes read.is.1) goes }
 
-  pub cnf_refused : (fault : CnfFault) (new : World) (result : Solved) → ReadsCnf (cnf.Refused fault) old mid → PrintsRefusal result fault mid new → Solves result forms.Cnf budget old new h h
-  cnf_refused fault new result read prints = record { bytes = read.bytes; mid = mid; gave = read.gave; bounded = read.bounded; ends = ends_refused forms.Cnf budget old mid new h h read.bytes result fault read.is.0 read.is.1 prints }
+  pub file_refused : format_of form ≡ format → (fault : CnfFault) (new : World) (result : Solved) → Reads format file (input.Refused fault) old mid → PrintsRefusal result fault mid new → Solves result form budget old new h h
+  file_refused e fault new result read prints = record { bytes = read.bytes; mid = mid; gave = read.gave; bounded = read.bounded; ends = ends_refused form budget old mid new h h read.bytes result fault read.is.0 (subst (λ f. IsFault f fault read.bytes) (sym e) read.is.1) prints }
 
-  pub cnf_no_memory : ReadsCnf cnf.NoMemory old mid → Solves solved.NoMemory forms.Cnf budget old mid h h
-  cnf_no_memory read = record { bytes = read.bytes; mid = mid; gave = read.gave; bounded = read.bounded; ends = inl (refl, refl) }
+  pub file_no_memory : Reads format file input.NoMemory old mid → Solves solved.NoMemory form budget old mid h h
+  file_no_memory read = record { bytes = read.bytes; mid = mid; gave = read.gave; bounded = read.bounded; ends = inl (refl, refl) }
 
-  pub cnf_read_fault : ReadsCnf cnf.ReadFault old mid → Solves solved.ReadFault forms.Cnf budget old mid h h
-  cnf_read_fault read = record { bytes = read.bytes; mid = mid; gave = read.gave; bounded = read.bounded; ends = (read.is, refl, refl) }
+  pub file_read_fault : Reads format file input.ReadFault old mid → Solves solved.ReadFault form budget old mid h h
+  file_read_fault read = record { bytes = read.bytes; mid = mid; gave = read.gave; bounded = read.bounded; ends = (read.is, refl, refl) }
 
-  pub cnf_too_much : ReadsCnf cnf.TooMuch old mid → Solves solved.TooMuch forms.Cnf budget old mid h h
-  cnf_too_much read = record { bytes = read.bytes; mid = mid; gave = read.gave; bounded = read.bounded; ends = inl (read.is, refl, refl) }
-
-  pub icnf_solves : (v : Icnf) (new : World) (k : Standing) (r : Result Answer Stop) → ReadsIcnf (icnf.Icnf v) old mid → Goes r budget (icnf_steps v) mid new h k answers.Unknown → Solves (solved_of r) forms.Icnf budget old new h k
-  icnf_solves v new k r read goes = record { bytes = read.bytes; mid = mid; gave = read.gave; bounded = read.bounded; ends = ends_file forms.Icnf budget old mid new h k read.bytes r (icnf_steps v) read.is.0 (v, read.is.1, refl) goes }
-
-  pub icnf_refused : (fault : CnfFault) (new : World) (result : Solved) → ReadsIcnf (icnf.Refused fault) old mid → PrintsRefusal result fault mid new → Solves result forms.Icnf budget old new h h
-  icnf_refused fault new result read prints = record { bytes = read.bytes; mid = mid; gave = read.gave; bounded = read.bounded; ends = ends_refused forms.Icnf budget old mid new h h read.bytes result fault read.is.0 read.is.1 prints }
-
-  pub icnf_no_memory : ReadsIcnf icnf.NoMemory old mid → Solves solved.NoMemory forms.Icnf budget old mid h h
-  icnf_no_memory read = record { bytes = read.bytes; mid = mid; gave = read.gave; bounded = read.bounded; ends = inl (refl, refl) }
-
-  pub icnf_read_fault : ReadsIcnf icnf.ReadFault old mid → Solves solved.ReadFault forms.Icnf budget old mid h h
-  icnf_read_fault read = record { bytes = read.bytes; mid = mid; gave = read.gave; bounded = read.bounded; ends = (read.is, refl, refl) }
-
-  pub icnf_too_much : ReadsIcnf icnf.TooMuch old mid → Solves solved.TooMuch forms.Icnf budget old mid h h
-  icnf_too_much read = record { bytes = read.bytes; mid = mid; gave = read.gave; bounded = read.bounded; ends = inl (read.is, refl, refl) }
+  pub file_too_much : Reads format file input.TooMuch old mid → Solves solved.TooMuch form budget old mid h h
+  file_too_much read = record { bytes = read.bytes; mid = mid; gave = read.gave; bounded = read.bounded; ends = inl (read.is, refl, refl) }

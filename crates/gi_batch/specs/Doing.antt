@@ -38,4 +38,5 @@ DoesStep budget Solve calls = IsSolved budget calls
 -- the calls do the steps, one after another
 abbrev pub Does : ℕ → List BatchStep → List Entry → Type 0
 Does budget [] calls = calls ≡ []
-Does budget (step ∷ steps) calls = (first : List Entry) × (rest : List Entry) × (calls ≡ first ++ rest) × DoesStep budget step first × Does budget steps rest
+Does budget (step ∷ steps) calls = (first : List Entry) × (rest : List Entry)
+    × (calls ≡ first ++ rest) × DoesStep budget step first × Does budget steps rest

@@ -36,7 +36,8 @@ abbrev pub AreProper : List Entry → Type 0
 AreProper calls = AllByRecursion (λ (e : Entry). is_proper e.call e.reply ≡ true) calls
 
 -- the steps were done, their output was written, and this is the last answer
-pub record IsDone (budget : ℕ) (steps : List BatchStep) (v w : World) (h k : Standing) (before answer : Answer) : Type 0 where
+pub record IsDone (budget : ℕ) (steps : List BatchStep) (v w : World) (h k : Standing)
+    (before answer : Answer) : Type 0 where
   pub calls : List Entry
   pub grown : Grown h k calls
   pub does : Does budget steps calls
@@ -54,13 +55,15 @@ pub record EndsImproper (calls : List Entry) : Type 0 where
 
 -- memory was wanting for a call, or for its entry
 abbrev pub LacksMemory : List Entry → Type 0
-LacksMemory calls = AreProper calls ⊎ ((ends : EndsImproper calls) × (ends.last.reply ≡ reply.NoMemory))
+LacksMemory calls = AreProper calls
+    ⊎ ((ends : EndsImproper calls) × (ends.last.reply ≡ reply.NoMemory))
 
 -- the last call was refused, or answered otherwise than the call is
 abbrev pub IsDenied : List Entry → Type 0
 IsDenied calls = (ends : EndsImproper calls) × (ends.last.reply ≢ reply.NoMemory)
 
--- the output of all calls but the last was written, and that of the last was cut: no call was made behind it
+-- the output of all calls but the last was written, and that of the last was cut: no call was made
+-- behind it
 pub record IsCutShort (calls : List Entry) (v w : World) : Type 0 where
   pub before : List Entry
   pub last : Entry
@@ -69,15 +72,19 @@ pub record IsCutShort (calls : List Entry) (v w : World) : Type 0 where
   pub wrote : Wrote v mid (output before)
   pub cut : WroteCut mid w (call_text last.call last.reply)
 
--- why these calls are all, where others were to come: their output was cut, no call was left, the last was denied, or memory was wanting
+-- why these calls are all, where others were to come: their output was cut, no call was left, the
+-- last was denied, or memory was wanting
 abbrev pub StopsBy : Stop → List Entry → List Entry → World → World → Standing → Type 0
-StopsBy stops.WriteFault calls rest v w k = AreProper calls × WroteCut v w (output calls) × IsCutShort calls v w
-StopsBy stops.TooMuch calls rest v w k = AreProper calls × Wrote v w (output calls) × (0 < length rest) × (k.left ≡ 0)
+StopsBy stops.WriteFault calls rest v w k = AreProper calls × WroteCut v w (output calls)
+    × IsCutShort calls v w
+StopsBy stops.TooMuch calls rest v w k = AreProper calls × Wrote v w (output calls)
+    × (0 < length rest) × (k.left ≡ 0)
 StopsBy stops.Denied calls rest v w k = IsDenied calls × Wrote v w (output calls)
 StopsBy stops.NoMemory calls rest v w k = LacksMemory calls × Wrote v w (output calls)
 
 -- the steps were begun: with the rest the calls would do them
-pub record IsBegun (by : Stop) (budget : ℕ) (steps : List BatchStep) (v w : World) (h k : Standing) : Type 0 where
+pub record IsBegun (by : Stop) (budget : ℕ) (steps : List BatchStep) (v w : World)
+    (h k : Standing) : Type 0 where
   pub calls : List Entry
   pub rest : List Entry
   pub grown : Grown h k calls
@@ -85,6 +92,7 @@ pub record IsBegun (by : Stop) (budget : ℕ) (steps : List BatchStep) (v w : Wo
   pub cause : StopsBy by calls rest v w k
 
 -- what came of steps
-abbrev pub Goes : Result Answer Stop → ℕ → List BatchStep → World → World → Standing → Standing → Answer → Type 0
+abbrev pub Goes : Result Answer Stop → ℕ → List BatchStep → World → World → Standing → Standing
+    → Answer → Type 0
 Goes (Ok answer) budget steps v w h k before = IsDone budget steps v w h k before answer
 Goes (Err by) budget steps v w h k before = IsBegun by budget steps v w h k

@@ -4,7 +4,8 @@ use Rattle.gi_model.specs.History.{Entry}
 use Rattle.gi_net.specs.Entries.{all_own_of, own_of}
 use Rattle.gi_net.specs.Standing.{Standing}
 
--- the history has grown by entries, of which these are the caller's calls; each own entry, work too, has taken a call
+-- the history has grown by entries, of which these are the caller's calls; each own entry, work
+-- too, has taken a call
 pub record Grown (old new : Standing) (own : List Entry) : Type 0 where
   pub entries : List Entry
   pub number : new.number ≡ old.number

@@ -22,13 +22,15 @@ use Rattle.gi_batch.specs.Told.{news_since, nothing_told, problem_of, told, told
 
 -- the steps of a value that some bytes have
 abbrev pub AreGood : List BatchStep → Type 0
-AreGood steps = ((v : Cnf) × IsGood v × (steps ≡ cnf_steps v)) ⊎ ((v : Icnf) × IsGoodIcnf v × (steps ≡ icnf_steps v))
+AreGood steps = ((v : Cnf) × IsGood v × (steps ≡ cnf_steps v))
+    ⊎ ((v : Icnf) × IsGoodIcnf v × (steps ≡ icnf_steps v))
 
 -- no stop was asked for
 abbrev pub IsUnstopped : Entry → Type 0
 IsUnstopped e = (mark : ℕ) → e.call ≡ call.Work mark → mark ≡ 0
 
--- the whole history of a machine that one caller has asked for these steps, or for a front of their calls
+-- the whole history of a machine that one caller has asked for these steps, or for a front of their
+-- calls
 pub record IsHistoryOf (number budget : ℕ) (steps : List BatchStep) (es : List Entry) : Type 0 where
   pub legal : IsLegal es
   pub alone : all_own_of number es ≡ es
@@ -54,9 +56,11 @@ lacks_memory other = false
 abbrev pub has_failed : List Entry → Bool
 has_failed es = list_any (λ e. lacks_memory e.reply) es
 
--- no call is refused, and each is answered as it is meant, unless memory was wanting for it or before
+-- no call is refused, and each is answered as it is meant, unless memory was wanting for it or
+-- before
 abbrev pub CallsAreAnswered : Type 0
-CallsAreAnswered = (budget : ℕ) (before : List Entry) (e : Entry) → StandsIn budget before e → is_work e.call ≡ false
+CallsAreAnswered = (budget : ℕ) (before : List Entry) (e : Entry) → StandsIn budget before e
+    → is_work e.call ≡ false
     → (is_proper e.call e.reply ≡ true) ⊎ (has_failed (before ++ e ∷ []) ≡ true)
 
 -- the true literal of each variable from v on, rising
@@ -64,7 +68,8 @@ unfoldable pub literals_from : ℕ → List Bool → List ℕ
 literals_from v [] = []
 literals_from v (b ∷ bs) = (if b then 2 * v else 2 * v + 1) ∷ literals_from (v + 1) bs
 
--- values that satisfy all clauses so far and the assumptions of the solve; the literals are the true ones of all variables
+-- values that satisfy all clauses so far and the assumptions of the solve; the literals are the
+-- true ones of all variables
 pub record IsModelOf (before : List Entry) (literals : List ℕ) : Type 0 where
   pub values : List Bool
   pub count : length values ≡ (told before).vars
@@ -74,15 +79,20 @@ pub record IsModelOf (before : List Entry) (literals : List ℕ) : Type 0 where
 
 -- each model that is told is one
 abbrev pub ModelsAreTrue : Type 0
-ModelsAreTrue = (budget : ℕ) (before : List Entry) (e : Entry) (literals : List ℕ) → StandsIn budget before e
+ModelsAreTrue = (budget : ℕ) (before : List Entry) (e : Entry) (literals : List ℕ)
+    → StandsIn budget before e
     → e.call ≡ call.Model → e.reply ≡ reply.Model literals → IsModelOf before literals
 
--- where a wait is answered that there are no values, nothing satisfies all clauses so far and the assumptions of the solve
+-- where a wait is answered that there are no values, nothing satisfies all clauses so far and the
+-- assumptions of the solve
 abbrev pub FailuresAreTrue : Type 0
-FailuresAreTrue = (budget : ℕ) (before : List Entry) (e : Entry) (serial : ℕ) (failed : List ℕ) → StandsIn budget before e
-    → e.call ≡ call.Wait → e.reply ≡ reply.Unsat serial failed → Fail (told before).clauses (told before).assumed
+FailuresAreTrue = (budget : ℕ) (before : List Entry) (e : Entry) (serial : ℕ) (failed : List ℕ)
+    → StandsIn budget before e
+    → e.call ≡ call.Wait → e.reply ≡ reply.Unsat serial failed
+    → Fail (told before).clauses (told before).assumed
 
--- the solve has learnt as many clauses as its budget, each of them fresh, and so the budget isn't above 3^n
+-- the solve has learnt as many clauses as its budget, each of them fresh, and so the budget isn't
+-- above 3^n
 pub record IsSpent (budget : ℕ) (before : List Entry) : Type 0 where
   -- what was known when the solve was started
   pub start : List (List ℕ)
@@ -93,10 +103,14 @@ pub record IsSpent (budget : ℕ) (before : List Entry) : Type 0 where
 
 -- where a wait is answered that it isn't known, the budget was spent, and it wasn't stopped
 abbrev pub UnknownIsSpent : Type 0
-UnknownIsSpent = (budget : ℕ) (before : List Entry) (e : Entry) (serial : ℕ) (because : Why) → StandsIn budget before e
-    → e.call ≡ call.Wait → e.reply ≡ reply.Status serial (status.Unknown because) → (because ≡ why.Budget) × IsSpent budget before
+UnknownIsSpent = (budget : ℕ) (before : List Entry) (e : Entry) (serial : ℕ) (because : Why)
+    → StandsIn budget before e
+    → e.call ≡ call.Wait → e.reply ≡ reply.Status serial (status.Unknown because)
+    → (because ≡ why.Budget) × IsSpent budget before
 
 -- at a wait, and at a model, the machine was told the steps up to that solve, and nothing else
 abbrev pub AsksAreWritten : Type 0
-AsksAreWritten = (budget : ℕ) (before : List Entry) (e : Entry) (stands : StandsIn budget before e) → (e.call ≡ call.Wait) ⊎ (e.call ≡ call.Model)
-    → (front : List BatchStep) × (rest : List BatchStep) × (stands.steps ≡ front ++ Solve ∷ rest) × (told before ≡ told_step (told_steps nothing_told front) Solve)
+AsksAreWritten = (budget : ℕ) (before : List Entry) (e : Entry) (stands : StandsIn budget before e)
+    → (e.call ≡ call.Wait) ⊎ (e.call ≡ call.Model)
+    → (front : List BatchStep) × (rest : List BatchStep) × (stands.steps ≡ front ++ Solve ∷ rest)
+    × (told before ≡ told_step (told_steps nothing_told front) Solve)

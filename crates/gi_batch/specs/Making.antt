@@ -38,7 +38,8 @@ pub record MakesLast (what : Call) (old new : Standing) : Type 0 where
 
 -- why it doesn't go on
 abbrev pub FailsBy : Stop → Call → Standing → Standing → Type 0
-FailsBy stops.NoMemory what old new = Grown old new [] ⊎ ((last : MakesLast what old new) × (last.reply ≡ reply.NoMemory))
+FailsBy stops.NoMemory what old new = Grown old new []
+    ⊎ ((last : MakesLast what old new) × (last.reply ≡ reply.NoMemory))
 FailsBy stops.TooMuch what old new = Grown old new [] × (new.left ≡ 0)
 FailsBy stops.Denied what old new = (last : MakesLast what old new) × (last.reply ≢ reply.NoMemory)
 FailsBy stops.WriteFault what old new = ⊥

@@ -34,7 +34,8 @@ line_text words = 118 ∷ (flat_map (λ word. 32 ∷ word) words ++ 10 ∷ [])
 
 -- the words in lines of twelve, the last with what is left
 unfoldable pub model_text : List ℕ → List ℕ
-model_text literals = flat_map (λ i. line_text (slice_chunk (words_of literals) 12 i)) (range_with_len 0 (length literals / 12 + 1))
+model_text literals = flat_map (λ i. line_text (slice_chunk (words_of literals) 12 i))
+    (range_with_len 0 (length literals / 12 + 1))
 
 abbrev pub wait_text : Option Answer → List ℕ
 wait_text (Some answer) = answer_text answer

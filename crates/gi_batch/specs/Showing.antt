@@ -20,7 +20,8 @@ Prints r v w = (literals : List ℕ) × (r ≡ reply.Model literals) × Wrote v 
 
 -- why it wasn't, or not whole: it is none, or the output was cut
 abbrev pub PrintsNot : Stop → Reply → World → World → Type 0
-PrintsNot stops.WriteFault r v w = (literals : List ℕ) × (r ≡ reply.Model literals) × WroteCut v w (model_text literals)
+PrintsNot stops.WriteFault r v w = (literals : List ℕ) × (r ≡ reply.Model literals)
+    × WroteCut v w (model_text literals)
 PrintsNot stops.Denied r v w = (is_model r ≡ false) × (w ≡ v)
 PrintsNot stops.NoMemory r v w = ⊥
 PrintsNot stops.TooMuch r v w = ⊥
@@ -39,7 +40,8 @@ pub record IsUntold (r : Reply) (v w : World) (h k : Standing) : Type 0 where
 
 -- it wasn't, or not whole
 abbrev pub ShowsNoModel : Stop → World → World → Standing → Standing → Type 0
-ShowsNoModel stops.WriteFault v w h k = (literals : List ℕ) × IsMade call.Model (reply.Model literals) h k × WroteCut v w (model_text literals)
+ShowsNoModel stops.WriteFault v w h k = (literals : List ℕ)
+    × IsMade call.Model (reply.Model literals) h k × WroteCut v w (model_text literals)
 ShowsNoModel stops.TooMuch v w h k = Grown h k [] × (k.left ≡ 0) × (w ≡ v)
 ShowsNoModel stops.Denied v w h k = (r : Reply) × IsUntold r v w h k × (r ≢ reply.NoMemory)
 ShowsNoModel stops.NoMemory v w h k = (Grown h k [] × (w ≡ v)) ⊎ IsUntold reply.NoMemory v w h k

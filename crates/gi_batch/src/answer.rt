@@ -34,7 +34,8 @@ pub enum Solved {
     Unsat,
     /// All solves were answered, the last one not within its budget; or there was none.
     Unknown,
-    /// The input is no file of the form: this is its first fault, whose refusal was written. No call was made.
+    /// The input is no file of the form: this is its first fault, whose refusal was written. No
+    /// call was made.
     Refused(CnfFault),
     /// Memory was wanting: for the input, for a call's entry, or for the machine.
     NoMemory,

@@ -2,6 +2,7 @@
 #![tactic(auto)]
 
 mod answer;
+mod file_steps;
 mod laws;
 mod making;
 mod printing;

@@ -10,8 +10,10 @@ use gi_net::{Answered, Caller};
 /// Makes a call, and goes on unless it has no entry, or its reply is a refusal or want of memory.
 pub fn make<C: Caller>(caller: &mut C, call: Call) -> Result<(), Stop>
     requires { fits call ≡ true }
-    ensures { MatchResult result (λ done. Makes call (C.answer caller.new) (C.standing caller.old) (C.standing caller.new))
+    ensures made { MatchResult result
+        (λ done. Makes call (C.answer caller.new) (C.standing caller.old) (C.standing caller.new))
         (λ by. FailsBy by call (C.standing caller.old) (C.standing caller.new)) }
+    ensures kept { C.kept caller.old caller.new }
 {
     match caller.call(call) {
         Answered::NoMemory => Err(Stop::NoMemory),

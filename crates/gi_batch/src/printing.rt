@@ -60,7 +60,8 @@ fn put_model<L: Link>(outbox: &mut Outbox, literals: &[Lit], user: &mut L)
 fn put_full_line<L: Link>(outbox: &mut Outbox, literals: &[Lit], i: usize, user: &mut L)
     requires { i * 12 + 12 ≤ length literals.now }
     ensures { (start : World) (before : List ℕ) → Stands start (L.state user.old) outbox.old before
-        → Stands start (L.state user.new) outbox.new (before ++ line_text (slice_chunk (words_of literals.now) 12 i)) }
+        → Stands start (L.state user.new) outbox.new
+        (before ++ line_text (slice_chunk (words_of literals.now) 12 i)) }
 {
     put_literals(outbox, &literals[i * WORDS..i * WORDS + WORDS], user);
     outbox.put(b"\n", user);
@@ -71,7 +72,8 @@ fn put_last_line<L: Link>(outbox: &mut Outbox, literals: &[Lit], i: usize, user:
     requires begun { i * 12 ≤ length literals.now }
     requires last { length literals.now < i * 12 + 12 }
     ensures { (start : World) (before : List ℕ) → Stands start (L.state user.old) outbox.old before
-        → Stands start (L.state user.new) outbox.new (before ++ line_text (slice_chunk (words_of literals.now) 12 i)) }
+        → Stands start (L.state user.new) outbox.new
+        (before ++ line_text (slice_chunk (words_of literals.now) 12 i)) }
 {
     put_literals(outbox, &literals[i * WORDS..], user);
     outbox.put(b" 0\n", user);
@@ -80,7 +82,8 @@ fn put_last_line<L: Link>(outbox: &mut Outbox, literals: &[Lit], i: usize, user:
 // Puts `v`, and each literal behind a space.
 fn put_literals<L: Link>(outbox: &mut Outbox, literals: &[Lit], user: &mut L)
     ensures { (start : World) (before : List ℕ) → Stands start (L.state user.old) outbox.old before
-        → Stands start (L.state user.new) outbox.new (before ++ 118 ∷ flat_map (λ l. 32 ∷ literal_text l) literals.now) }
+        → Stands start (L.state user.new) outbox.new
+        (before ++ 118 ∷ flat_map (λ l. 32 ∷ literal_text l) literals.now) }
 {
     outbox.put(b"v", user);
     for literal in literals {

@@ -1,25 +1,30 @@
 // Files, solved.
 ghost use Rattle.std.specs.Prelude.{◌≡◌, ◌≤◌};
+ghost use Rattle.gi_net.specs.Leads.{Leads};
 ghost use Rattle.gi_batch.specs.Solves.{PrintsRefusal, Solves, solved_of};
 
 use crate::answer::{Answer, Solved, Stop};
-use crate::steps::{solve_cnf, solve_icnf};
-use gi_dimacs::CnfFault;
-use gi_files::{CnfInput, Form, IcnfInput, read_cnf, read_icnf, write_refused};
+use crate::file_steps::FileSteps;
+use gi_dimacs::{Cnf, CnfFault, Icnf};
+use gi_files::{FileInput, Form, read_file, write_refused};
 use gi_net::Caller;
 use gi_outside::{Link, Sent};
 use std::alloc::Global;
 
-/// Reads a file to its end, makes the calls of its solves, and prints the answer of each before the next is begun.
+/// Reads a file to its end, makes the calls of its solves, and prints the answer of each before the
+/// next is begun.
 ///
-/// For CNF these are the variables, each clause in order, and one solve; for iCNF, item by item, a clause, or an ask's
-/// assumptions and a solve. A solve has the budget, is waited for, and asks for the model where there is one. It prints
+/// For CNF these are the variables, each clause in order, and one solve; for iCNF, item by item, a
+/// clause, or an ask's assumptions and a solve. A solve has the budget, is waited for, and asks for
+/// the model where there is one. It prints
 /// `s SATISFIABLE` and the model's literals in `v` lines, `s UNSATISFIABLE` or `s UNKNOWN`. An input that is refused prints
 /// `refused LINE CODE`. The budget is at least 1.
 ///
 /// `ReadFault` and `WriteFault` come only where that count of the link rose, `TooMuch` only after 2^62 bytes or where no call
-/// was left for the next one, and `Denied` only where the last call was refused or answered otherwise than it is. Whatever the
-/// end, the calls that were made are a front of those of the file, and their output was written, but for `WriteFault`.
+/// was left for the next one, and `Denied` only where the last call was refused or answered
+/// otherwise than it is. Whatever the end, the calls that were made are a front of those of the
+/// file, and their output was written, but for `WriteFault`. The caller was led on by those calls
+/// alone.
 pub fn solve<C: Caller, L: Link>(
     alloc: Global,
     form: Form,
@@ -28,49 +33,34 @@ pub fn solve<C: Caller, L: Link>(
     user: &mut L,
 ) -> Solved
     requires { 1 ≤ budget }
-    ensures { Solves result form budget (L.state user.old) (L.state user.new) (C.standing caller.old) (C.standing caller.new) }
+    ensures solves { Solves result form budget (L.state user.old) (L.state user.new)
+        (C.standing caller.old) (C.standing caller.new) }
+    ensures led { Leads C.kept caller.old caller.new }
 {
     match form {
-        Form::Cnf => solve_cnf_file(alloc, budget, caller, user),
-        Form::Icnf => solve_icnf_file(alloc, budget, caller, user),
+        Form::Cnf => solve_file::<Cnf, C, L>(alloc, budget, caller, user),
+        Form::Icnf => solve_file::<Icnf, C, L>(alloc, budget, caller, user),
     }
 }
 
-// Solves a CNF file.
-fn solve_cnf_file<C: Caller, L: Link>(
+// Solves a file that should say such a value.
+fn solve_file<V: FileSteps, C: Caller, L: Link>(
     alloc: Global,
     budget: u32,
     caller: &mut C,
     user: &mut L,
 ) -> Solved
     requires { 1 ≤ budget }
-    ensures { Solves result Form.Cnf budget (L.state user.old) (L.state user.new) (C.standing caller.old) (C.standing caller.new) }
+    ensures solves { Solves result V.form budget (L.state user.old) (L.state user.new)
+        (C.standing caller.old) (C.standing caller.new) }
+    ensures led { Leads C.kept caller.old caller.new }
 {
-    match read_cnf(alloc, user) {
-        CnfInput::Cnf(cnf) => solved(solve_cnf(cnf, budget, caller, user)),
-        CnfInput::Refused(fault) => refuse(fault, user),
-        CnfInput::NoMemory => Solved::NoMemory,
-        CnfInput::ReadFault => Solved::ReadFault,
-        CnfInput::TooMuch => Solved::TooMuch,
-    }
-}
-
-// Solves an iCNF file.
-fn solve_icnf_file<C: Caller, L: Link>(
-    alloc: Global,
-    budget: u32,
-    caller: &mut C,
-    user: &mut L,
-) -> Solved
-    requires { 1 ≤ budget }
-    ensures { Solves result Form.Icnf budget (L.state user.old) (L.state user.new) (C.standing caller.old) (C.standing caller.new) }
-{
-    match read_icnf(alloc, user) {
-        IcnfInput::Icnf(icnf) => solved(solve_icnf(&icnf, budget, caller, user)),
-        IcnfInput::Refused(fault) => refuse(fault, user),
-        IcnfInput::NoMemory => Solved::NoMemory,
-        IcnfInput::ReadFault => Solved::ReadFault,
-        IcnfInput::TooMuch => Solved::TooMuch,
+    match read_file::<V, L>(alloc, user) {
+        FileInput::Value(value) => solved(value.solve(budget, caller, user)),
+        FileInput::Refused(fault) => refuse(fault, user),
+        FileInput::NoMemory => Solved::NoMemory,
+        FileInput::ReadFault => Solved::ReadFault,
+        FileInput::TooMuch => Solved::TooMuch,
     }
 }
 

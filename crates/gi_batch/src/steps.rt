@@ -7,6 +7,7 @@ ghost use Rattle.gi_batch.specs.Output.{answer_of};
 ghost use Rattle.gi_batch.specs.Done.{Goes, IsBegun, IsDone};
 ghost use Rattle.gi_batch.specs.Showing.{Prints, PrintsNot, Shows, ShowsModel, ShowsNoModel, ShowsNot};
 ghost use Rattle.gi_model.specs.History.{Entry};
+ghost use Rattle.gi_net.specs.Leads.{Leads};
 ghost use Rattle.gi_model.specs.declared.calls.Call.TheVariants as call;
 
 use crate::answer::{Answer, Stop};
@@ -26,7 +27,10 @@ pub fn solve_cnf<C: Caller, L: Link>(
     user: &mut L,
 ) -> Result<Answer, Stop>
     requires { 1 ≤ budget }
-    ensures { (before : Answer) → Goes result budget (cnf_steps cnf) (L.state user.old) (L.state user.new) (C.standing caller.old) (C.standing caller.new) before }
+    ensures goes { (before : Answer)
+        → Goes result budget (cnf_steps cnf) (L.state user.old) (L.state user.new)
+        (C.standing caller.old) (C.standing caller.new) before }
+    ensures led { Leads C.kept caller.old caller.new }
 {
     let Cnf { vars, clauses } = cnf;
     make(caller, Call::Vars(vars))?;
@@ -36,9 +40,10 @@ pub fn solve_cnf<C: Caller, L: Link>(
 
 // Adds clauses, in order.
 fn add_clauses<C: Caller>(clauses: Clauses, caller: &mut C) -> Result<(), Stop>
-    ensures { MatchResult result
+    ensures added { MatchResult result
         (λ done. (budget : ℕ) (v : World) (before : Answer) → IsDone budget (map Clause clauses) v v (C.standing caller.old) (C.standing caller.new) before before)
         (λ by. (budget : ℕ) (v : World) → IsBegun by budget (map Clause clauses) v v (C.standing caller.old) (C.standing caller.new)) }
+    ensures led { Leads C.kept caller.old caller.new }
 {
     for clause in clauses.into_vec() {
         make(caller, Call::Add(clause))?;
@@ -46,7 +51,8 @@ fn add_clauses<C: Caller>(clauses: Clauses, caller: &mut C) -> Result<(), Stop>
     Ok(())
 }
 
-/// Does the steps of an iCNF file. The answer is that of its last solve, or unknown where it has none.
+/// Does the steps of an iCNF file. The answer is that of its last solve, or unknown where it has
+/// none.
 pub fn solve_icnf<C: Caller, L: Link>(
     icnf: &Icnf,
     budget: u32,
@@ -54,7 +60,9 @@ pub fn solve_icnf<C: Caller, L: Link>(
     user: &mut L,
 ) -> Result<Answer, Stop>
     requires { 1 ≤ budget }
-    ensures { Goes result budget (icnf_steps icnf.now) (L.state user.old) (L.state user.new) (C.standing caller.old) (C.standing caller.new) Answer.Unknown }
+    ensures goes { Goes result budget (icnf_steps icnf.now) (L.state user.old) (L.state user.new)
+        (C.standing caller.old) (C.standing caller.new) Answer.Unknown }
+    ensures led { Leads C.kept caller.old caller.new }
 {
     let mut last = Answer::Unknown;
     for item in icnf.items.as_slice() {
@@ -72,7 +80,9 @@ fn do_item<C: Caller, L: Link>(
     user: &mut L,
 ) -> Result<Answer, Stop>
     requires { 1 ≤ budget }
-    ensures { Goes result budget (item_steps item.now) (L.state user.old) (L.state user.new) (C.standing caller.old) (C.standing caller.new) last }
+    ensures goes { Goes result budget (item_steps item.now) (L.state user.old) (L.state user.new)
+        (C.standing caller.old) (C.standing caller.new) last }
+    ensures led { Leads C.kept caller.old caller.new }
 {
     match item {
         Item::Clause(clause) => {
@@ -99,7 +109,10 @@ fn copy(lits: &Lits) -> Result<Lits, Stop>
 // Solves with the budget, waits for the answer, prints it, and the model where there is one.
 fn solve_now<C: Caller, L: Link>(budget: u32, caller: &mut C, user: &mut L) -> Result<Answer, Stop>
     requires { 1 ≤ budget }
-    ensures { (before : Answer) → Goes result budget (Solve ∷ []) (L.state user.old) (L.state user.new) (C.standing caller.old) (C.standing caller.new) before }
+    ensures goes { (before : Answer)
+        → Goes result budget (Solve ∷ []) (L.state user.old) (L.state user.new)
+        (C.standing caller.old) (C.standing caller.new) before }
+    ensures led { Leads C.kept caller.old caller.new }
 {
     make(caller, Call::Solve(budget))?;
     make(caller, Call::Wait)?;
@@ -114,9 +127,11 @@ fn solve_now<C: Caller, L: Link>(budget: u32, caller: &mut C, user: &mut L) -> R
 
 // Prints an answer, and the model where there is one.
 fn show<C: Caller, L: Link>(answer: Answer, caller: &mut C, user: &mut L) -> Result<(), Stop>
-    ensures { (wait : Entry) → wait.call ≡ call.Wait → answer_of wait.reply ≡ Some answer
-        → MatchResult result (λ done. Shows wait (L.state user.old) (L.state user.new) (C.standing caller.old) (C.standing caller.new))
+    ensures shown { (wait : Entry) → wait.call ≡ call.Wait → answer_of wait.reply ≡ Some answer
+        → MatchResult result (λ done. Shows wait (L.state user.old) (L.state user.new)
+        (C.standing caller.old) (C.standing caller.new))
         (λ by. ShowsNot by wait (L.state user.old) (L.state user.new) (C.standing caller.old) (C.standing caller.new)) }
+    ensures led { Leads C.kept caller.old caller.new }
 {
     match print_answer(answer, user) {
         Sent::Failed => return Err(Stop::WriteFault),
@@ -131,8 +146,11 @@ fn show<C: Caller, L: Link>(answer: Answer, caller: &mut C, user: &mut L) -> Res
 
 // Asks for the model, and prints it.
 fn show_model<C: Caller, L: Link>(caller: &mut C, user: &mut L) -> Result<(), Stop>
-    ensures { MatchResult result (λ done. ShowsModel (L.state user.old) (L.state user.new) (C.standing caller.old) (C.standing caller.new))
+    ensures shown { MatchResult result
+        (λ done. ShowsModel (L.state user.old) (L.state user.new) (C.standing caller.old)
+        (C.standing caller.new))
         (λ by. ShowsNoModel by (L.state user.old) (L.state user.new) (C.standing caller.old) (C.standing caller.new)) }
+    ensures led { Leads C.kept caller.old caller.new }
 {
     make(caller, Call::Model)?;
     print_reply(caller.reply(), user)
@@ -140,7 +158,8 @@ fn show_model<C: Caller, L: Link>(caller: &mut C, user: &mut L) -> Result<(), St
 
 // Prints a model.
 fn print_reply<L: Link>(reply: &Reply, user: &mut L) -> Result<(), Stop>
-    ensures { MatchResult result (λ done. Prints reply.now (L.state user.old) (L.state user.new)) (λ by. PrintsNot by reply.now (L.state user.old) (L.state user.new)) }
+    ensures { MatchResult result (λ done. Prints reply.now (L.state user.old) (L.state user.new))
+        (λ by. PrintsNot by reply.now (L.state user.old) (L.state user.new)) }
 {
     match reply {
         Reply::Model(literals) => match print_model(literals.as_slice(), user) {
