@@ -9,3 +9,4 @@ pub mod Spelling
 pub mod Reading
 pub mod Leaving
 pub mod Serving
+pub mod Tallies

@@ -7,6 +7,8 @@ use Rattle.gi_model.specs.declared.replies.Reply.{Reply}
 use Rattle.gi_model.specs.declared.replies.Reply.TheVariants as reply
 use Rattle.gi_model.specs.declared.replies.Status.{Status}
 use Rattle.gi_model.specs.declared.replies.Status.TheVariants as status
+use Rattle.gi_drill.specs.declared.kind.Kind.{Kind}
+use Rattle.gi_drill.specs.declared.kind.Kind.TheVariants as kind
 use Rattle.gi_drill.specs.declared.tally.Tally.{Tally}
 
 -- nothing counted yet
@@ -37,12 +39,22 @@ wait_noted t (reply.Status serial status) = status_noted t status
 wait_noted t (reply.Unsat serial failed) = record t { unsat = raised t.unsat }
 wait_noted t other = t
 
+-- what of a call's reply is noted
+abbrev pub kind_of : Call → Kind
+kind_of (Vars k) = kind.Vars
+kind_of (Add c) = kind.Add
+kind_of Wait = kind.Wait
+kind_of call = kind.Other
+
+abbrev pub kind_noted : Tally → Kind → Reply → Tally
+kind_noted t kind.Vars answer = vars_noted t answer
+kind_noted t kind.Add answer = add_noted t answer
+kind_noted t kind.Wait answer = wait_noted t answer
+kind_noted t kind.Other answer = t
+
 -- with one more entry
 abbrev pub noted : Tally → Call → Reply → Tally
-noted t (Vars k) answer = vars_noted t answer
-noted t (Add c) answer = add_noted t answer
-noted t Wait answer = wait_noted t answer
-noted t call answer = t
+noted t call answer = kind_noted t (kind_of call) answer
 
 -- with these entries
 unfoldable pub tally_from : Tally → List Entry → Tally

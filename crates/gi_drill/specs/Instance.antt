@@ -40,7 +40,8 @@ place_c x = third_place (place_a x) (place_b x) (draw 3 148 x)
 
 -- three literals of different variables, by six draws
 unfoldable pub chosen : ℕ → List ℕ
-chosen x = literal_by (place_a x) (draw 4 2 x) ∷ literal_by (place_b x) (draw 5 2 x) ∷ literal_by (place_c x) (draw 6 2 x) ∷ []
+chosen x = literal_by (place_a x) (draw 4 2 x) ∷ literal_by (place_b x) (draw 5 2 x)
+    ∷ literal_by (place_c x) (draw 6 2 x) ∷ []
 
 -- the first literal negated
 abbrev pub turned : List ℕ → List ℕ

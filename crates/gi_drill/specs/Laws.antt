@@ -26,13 +26,16 @@ PlanSatisfies = (n : ℕ) → Satisfies (plan n) (clauses n)
 abbrev pub ScriptIsRead : Type 0
 ScriptIsRead = (ended : Bool) (n : ℕ) → items ended (script_text n) ≡ numbered 1 (script n)
 
--- the rounds have 7 calls each, and 607 stand around them; a call's line has at most 100 bytes, its LF among them
+-- the rounds have 7 calls each, and 607 stand around them; a call's line has at most 100 bytes, its
+-- LF among them
 abbrev pub ScriptIsShort : Type 0
-ScriptIsShort = (n : ℕ) → (length (script n) ≡ 607 + 7 * n) × (length (script_text n) ≤ 100 * (607 + 7 * n))
+ScriptIsShort = (n : ℕ) → (length (script n) ≡ 607 + 7 * n)
+    × (length (script_text n) ≤ 100 * (607 + 7 * n))
 
 -- the last call of the script is the only bye
 abbrev pub ByeIsLast : Type 0
-ByeIsLast = (n : ℕ) → (before : List Call) × (script n ≡ before ++ Bye ∷ []) × AllByRecursion (λ c. c ≢ Bye) before
+ByeIsLast = (n : ℕ) → (before : List Call) × (script n ≡ before ++ Bye ∷ [])
+    × AllByRecursion (λ c. c ≢ Bye) before
 
 -- the entries without work
 abbrev pub without_work : List Entry → List Entry
@@ -50,14 +53,18 @@ pub record Plays (rounds : ℕ) (front back : List Entry) : Type 0 where
   pub calls_are : map (λ e. e.call) (without_work front) ≡ script rounds
   pub lively : AllByRecursion (λ e. IsLively e.reply) (without_work front)
 
--- a session that was given the script, all of it or its beginning, and ended by bye, has its calls on a machine that stands
+-- a session that was given the script, all of it or its beginning, and ended by bye, has its calls
+-- on a machine that stands
 abbrev pub SessionsPlay : Type 0
-SessionsPlay = (n : ℕ) (ended : Bool) (bytes rest : List ℕ) (own : List Entry) (left : ℕ) (out : List ℕ) → bytes ++ rest ≡ script_text n → (ended ≡ true → rest ≡ [])
-    → Served bytes ended own (left ≡ 0) out how.Bye → (map (λ e. e.call) own ≡ script n) × AllByRecursion (λ e. IsLively e.reply) own
+SessionsPlay = (n : ℕ) (ended : Bool) (bytes rest : List ℕ) (own : List Entry) (left : ℕ)
+    (out : List ℕ) → bytes ++ rest ≡ script_text n → (ended ≡ true → rest ≡ [])
+    → Served bytes ended own (left ≡ 0) out how.Bye
+    → (map (λ e. e.call) own ≡ script n) × AllByRecursion (λ e. IsLively e.reply) own
 
 -- where all entries are of one caller, its calls are the entries without work
 abbrev pub OwnCallsAreAll : Type 0
-OwnCallsAreAll = (number : ℕ) (entries : List Entry) → AllByRecursion (λ e. e.by ≡ number) entries → own_of number entries ≡ without_work entries
+OwnCallsAreAll = (number : ℕ) (entries : List Entry) → AllByRecursion (λ e. e.by ≡ number) entries
+    → own_of number entries ≡ without_work entries
 
 -- no refusal
 abbrev pub IsTaken : Entry → Type 0
@@ -65,24 +72,35 @@ IsTaken e = (r : Refusal) → e.reply ≢ reply.Refused r
 
 -- no call of the script is refused
 abbrev pub NoneIsRefused : Type 0
-NoneIsRefused = (rounds : ℕ) (front back : List Entry) → Plays rounds front back → AllByRecursion IsTaken front
+NoneIsRefused = (rounds : ℕ) (front back : List Entry) → Plays rounds front back
+    → AllByRecursion IsTaken front
 
 -- there are 150 variables in the end, and with the guard 151
 abbrev pub VariablesAreTold : Type 0
-VariablesAreTold = (rounds : ℕ) (front back : List Entry) → Plays rounds front back → (tally_of front).vars ≡ (if rounds == 0 then 150 else 151)
+VariablesAreTold = (rounds : ℕ) (front back : List Entry) → Plays rounds front back
+    → (tally_of front).vars ≡ (if rounds == 0 then 150 else 151)
 
 -- all clauses are taken
 abbrev pub ClausesAreTaken : Type 0
-ClausesAreTaken = (rounds : ℕ) (front back : List Entry) → Plays rounds front back → (tally_of front).clauses ≡ 600
+ClausesAreTaken = (rounds : ℕ) (front back : List Entry) → Plays rounds front back
+    → (tally_of front).clauses ≡ 600
 
 -- each round fails by itself
 abbrev pub FewAreSat : Type 0
-FewAreSat = (rounds : ℕ) (front back : List Entry) → Plays rounds front back → (tally_of front).sat ≤ 2
+FewAreSat = (rounds : ℕ) (front back : List Entry) → Plays rounds front back
+    → (tally_of front).sat ≤ 2
 
 -- and all clauses together have a model
 abbrev pub FewAreUnsat : Type 0
-FewAreUnsat = (rounds : ℕ) (front back : List Entry) → Plays rounds front back → (tally_of front).unsat ≤ rounds
+FewAreUnsat = (rounds : ℕ) (front back : List Entry) → Plays rounds front back
+    → (tally_of front).unsat ≤ rounds
+
+-- work is not counted: so what is counted of a caller's calls is what is counted of all entries,
+-- where no one else calls
+abbrev pub CallsAloneAreCounted : Type 0
+CallsAloneAreCounted = (entries : List Entry) → tally_of (without_work entries) ≡ tally_of entries
 
 -- a count goes on entry by entry
 abbrev pub TalliesGrow : Type 0
-TalliesGrow = (es : List Entry) (e : Entry) → tally_of (es ++ e ∷ []) ≡ noted (tally_of es) e.call e.reply
+TalliesGrow = (es : List Entry) (e : Entry)
+    → tally_of (es ++ e ∷ []) ≡ noted (tally_of es) e.call e.reply

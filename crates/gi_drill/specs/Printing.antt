@@ -8,4 +8,6 @@ counted label n = label ++ (decimal n ++ 10 ∷ [])
 
 -- the five lines
 unfoldable pub tally_text : ℕ → Tally → List ℕ
-tally_text rounds t = (((counted (codes "drill ") rounds ++ counted (codes "vars ") t.vars) ++ counted (codes "clauses ") t.clauses) ++ counted (codes "sat ") t.sat) ++ counted (codes "unsat ") t.unsat
+tally_text rounds t = (((counted (codes "drill ") rounds ++ counted (codes "vars ") t.vars)
+    ++ counted (codes "clauses ") t.clauses) ++ counted (codes "sat ") t.sat)
+    ++ counted (codes "unsat ") t.unsat

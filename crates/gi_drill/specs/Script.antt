@@ -15,7 +15,8 @@ guarding = 151 ∷ []
 
 -- a variable and its negation under a guard, which is assumed for a solve and then dropped
 abbrev pub round : ℕ → List Call
-round x = NewGuard ∷ Under guarding (2 * x ∷ []) ∷ Under guarding ((2 * x + 1) ∷ []) ∷ Assume (302 ∷ []) ∷ Solve 4294967295 ∷ Wait ∷ DropGuard 151 ∷ []
+round x = NewGuard ∷ Under guarding (2 * x ∷ []) ∷ Under guarding ((2 * x + 1) ∷ [])
+    ∷ Assume (302 ∷ []) ∷ Solve 4294967295 ∷ Wait ∷ DropGuard 151 ∷ []
 
 -- the variable of a round, counted from 0
 abbrev pub variable_of : ℕ → ℕ

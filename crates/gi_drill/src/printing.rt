@@ -8,8 +8,9 @@ ghost use Rattle.gi_drill.specs.Printing.{counted, tally_text};
 use crate::tally::Tally;
 use gi_outside::{Link, Outbox, Sent};
 
-/// Writes five lines: `drill` and the number of rounds, and then `vars`, `clauses`, `sat` and `unsat` with what was
-/// counted. `Failed` comes only where a write of `user` failed; then a front of the text was written.
+/// Writes five lines: `drill` and the number of rounds, and then `vars`, `clauses`, `sat` and
+/// `unsat` with what was counted. `Failed` comes only where a write of `user` failed; then a front
+/// of the text was written.
 pub fn print_tally<L: Link>(rounds: u32, tally: &Tally, user: &mut L) -> Sent
     ensures { Sends result (L.state user.old) (L.state user.new) (tally_text rounds tally.now) }
 {

@@ -13,9 +13,10 @@ use gi_lit::{Assign, Var};
 use gi_text::Bytes;
 use std::alloc::{AllocError, Global};
 
-/// The script of so many rounds: 150 variables and 600 clauses, which have a model, a solve, the rounds, and a solve
-/// again. Each round asks for a variable and its negation under a guard, solves under it and drops it. There is a line
-/// for each call, and the last is `bye`. An error is want of memory.
+/// The script of so many rounds: 150 variables and 600 clauses, which have a model, a solve, the
+/// rounds, and a solve again. Each round asks for a variable and its negation under a guard, solves
+/// under it and drops it. There is a line for each call, and the last is `bye`. An error is want of
+/// memory.
 pub fn write_script(alloc: Global, rounds: u32) -> Result<Bytes, AllocError>
     requires { rounds ≤ 10000 }
     ensures { IfOk result (λ bytes. bytes ≡ script_text rounds) }
@@ -45,7 +46,8 @@ fn put_clauses(alloc: Global, out: &mut Bytes, seed: u32) -> Result<(), AllocErr
 // Adds the line of the next clause.
 fn put_clause(out: &mut Bytes, plan: &Assign, generator: &mut Generator) -> Result<(), AllocError>
     requires { length plan.now ≡ 150 }
-    ensures text { OnOk result (out.new ≡ out.old ++ line_text (Add (mended plan.now (chosen generator.old)))) }
+    ensures text { OnOk result
+        (out.new ≡ out.old ++ line_text (Add (mended plan.now (chosen generator.old)))) }
     ensures state { OnOk result (generator.new ≡ state_after 6 generator.old) }
 {
     let (a, b, c) = choose(generator);

@@ -1,10 +1,12 @@
 ghost use Rattle.std.specs.Prelude.{◌≡◌};
-ghost use Rattle.gi_drill.specs.Counting.{add_noted, new_tally, noted, raised, vars_noted, wait_noted};
+ghost use Rattle.gi_drill.specs.Counting.{add_noted, kind_noted, new_tally, noted, raised, vars_noted, wait_noted};
 
+use crate::kind::Kind;
 use gi_model::{Call, Reply, Status};
 
-/// What is counted among the answers: the number of variables as last told, the clauses that were taken, and the solves
-/// that were found to have ended with a model or with a failing set. A count stands still at `u64::MAX`.
+/// What is counted among the answers: the number of variables as last told, the clauses that were
+/// taken, and the solves that were found to have ended with a model or with a failing set. A count
+/// stands still at `u64::MAX`.
 #[derive(Clone, Copy, Debug, PartialEq, Eq)]
 pub struct Tally {
     pub vars: u64,
@@ -30,11 +32,18 @@ impl Tally {
     pub fn note(&mut self, call: &Call, reply: &Reply)
         ensures { self.new ≡ noted self.old call.now reply.now }
     {
-        match call {
-            Call::Vars(_) => self.note_vars(reply),
-            Call::Add(_) => self.note_add(reply),
-            Call::Wait => self.note_wait(reply),
-            _ => {}
+        self.note_reply(Kind::of(call), reply);
+    }
+
+    /// Counts the reply to a call of that kind.
+    pub(crate) fn note_reply(&mut self, kind: Kind, reply: &Reply)
+        ensures { self.new ≡ kind_noted self.old kind reply.now }
+    {
+        match kind {
+            Kind::Vars => self.note_vars(reply),
+            Kind::Add => self.note_add(reply),
+            Kind::Wait => self.note_wait(reply),
+            Kind::Other => {}
         }
     }
 
