@@ -1,5 +1,5 @@
 -- A file that was solved on a pass.
-use Rattle.std.proofs.Common.{◌≡◌, ℕ, ◌≤◌, ◌^◌, ◌==◌, true, false, not, ◌&&◌, List, [], ◌∷◌, ◌++◌, length, ◌⊎◌, inl, inr, refl, sym, ap, subst, ◌∙◌, arith, eq-eqb, append-nil, append_assoc}
+use Rattle.std.proofs.Common.{◌≡◌, ℕ, ◌≤◌, ◌^◌, ◌==◌, true, false, not, ◌&&◌, Option, None, List, [], ◌∷◌, ◌++◌, length, ◌⊎◌, inl, inr, refl, sym, ap, subst, ◌∙◌, arith, eq-eqb, append-nil, append_assoc}
 use Rattle.std.specs.List.{All}
 use Rattle.std.proofs.lemmas.Bool.{both_ways, not-true, and_parts, or_cases}
 use Rattle.std.proofs.lemmas.List.Elements.{All-head, All-tail, All-weaker, All-contains, Contains-append_right, filter_passes}
@@ -9,12 +9,13 @@ use Rattle.gi_dimacs.proofs.Ends.{good_values}
 use Rattle.gi_files.specs.declared.form.Form.{Form}
 use Rattle.gi_files.specs.Texts.{refused_text}
 use Rattle.gi_files.specs.declared.form.Form.TheVariants as forms
-use Rattle.gi_model.specs.History.{Entry}
+use Rattle.gi_model.specs.History.{Entry, IsLegal}
 use Rattle.gi_model.specs.declared.calls.Call.{Call}
 use Rattle.gi_model.specs.declared.calls.Call.TheVariants as call
 use Rattle.gi_model.specs.declared.replies.Reply.{Reply}
 use Rattle.gi_model.specs.declared.replies.Reply.TheVariants as reply
 use Rattle.gi_net.specs.Entries.{all_own_of, own_of, is_work}
+use Rattle.gi_net.specs.Laws.{AllowedIsReply}
 use Rattle.gi_net.specs.Standing.{Standing}
 use Rattle.gi_batch.specs.Doing.{Does}
 use Rattle.gi_batch.specs.Done.{AreProper, IsDenied, is_proper}
@@ -27,16 +28,16 @@ use Rattle.gi_batch.specs.declared.answer.Solved.{Solved}
 use Rattle.gi_batch.specs.declared.answer.Solved.TheVariants as solved
 use Rattle.gi_batch.specs.declared.answer.Stop.{Stop}
 use Rattle.gi_batch.specs.declared.answer.Stop.TheVariants as stops
-use Rattle.gi_run.specs.Kept.{IsHistory, IsOwn}
-use Rattle.gi_run.specs.Seen.{Seen, standing}
+use Rattle.gi_run.specs.Kept.{IsHistory, IsNew, IsOwn}
+use Rattle.gi_room.specs.Calls.{HasCauses, HoldsAsBefore}
+use Rattle.gi_room.specs.Seen.{Seen}
+use Rattle.gi_host.specs.Visits.{Visits, asking, standing_of, visit}
 use Rattle.gi_run.specs.Shutting.{HasLostWork}
-use Rattle.gi_run.proofs.Lost.{IsLost, lost_or_called}
+use Rattle.gi_run.proofs.Alone.{all_own, cancel, kept}
+use Rattle.gi_run.proofs.Unasked.{IsStop, file_calls, unasked}
+use Rattle.gi_run.proofs.Lost.{IsLost, IsOurs, lost_or_called}
 use Rattle.gi_run.proofs.Having.{Has, has_contained, has_left, has_right, has_split, has_unfiltered}
-use Rattle.gi_run.specs.Solving.{AreAsked, AreTrue, HasSolved, IsAnswered, IsNew, IsUndisturbed}
-
-all_own : (n : ℕ) (es : List Entry) → All (IsOwn n) es → all_own_of n es ≡ es
-all_own n [] h = refl
-all_own n (e ∷ es) h = rw (eq-eqb e.by n (All-head (IsOwn n) e es h).by) (ap (λ xs. e ∷ xs) (all_own n es (All-tail (IsOwn n) e es h)))
+use Rattle.gi_run.specs.Solving.{AreAsked, AreTrue, HasSolved, IsAnswered, IsUndisturbed}
 
 -- the calls of a good file were begun
 pub record Began (form : Form) (bytes : List ℕ) (budget : ℕ) (before after : Standing) : Type 0 where
@@ -78,7 +79,7 @@ began solved.TooMuch form budget old new before after s = elim s.ends [ inl r �
 began solved.Denied form budget old new before after s = inr (stopped_began form budget old s.mid new before after s.bytes _ s.ends)
 
 -- the whole history of such a pass is that of the file's calls, or of a front of them
-module _ (form : Form) (bytes : List ℕ) (budget : ℕ) (p q : Seen) (new : IsNew p) (b : Began form bytes budget (standing p) (standing q)) (kept : IsHistory q.number q.history) where
+module _ (form : Form) (bytes : List ℕ) (budget : ℕ) (p q : Seen) (new : IsNew p) (b : Began form bytes budget (standing_of p) (standing_of q)) (kept : IsHistory q.number q.history) where
   kept_own : All (IsOwn p.number) q.history
   kept_own = subst (λ (n : ℕ). All (IsOwn n) q.history) b.grown.number kept.own
 
@@ -86,7 +87,7 @@ module _ (form : Form) (bytes : List ℕ) (budget : ℕ) (p q : Seen) (new : IsN
   entered = b.grown.history ∙ ap (λ es. es ++ b.grown.entries) new.history
 
   alone : all_own_of p.number q.history ≡ q.history
-  alone = all_own p.number q.history kept_own
+  alone = all_own p.number q.history (All-weaker (IsOwn p.number) (λ (e : Entry). e.by ≡ p.number) (λ e o. o.by) q.history kept_own)
 
   own_is : own_of p.number q.history ≡ b.calls
   own_is = ap (own_of p.number) entered ∙ b.grown.own_is
@@ -124,14 +125,14 @@ no_split es (x ∷ before) after e none split = let n : [] ≡ x ∷ (before ++ 
 
 module _ (form : Form) (bytes : List ℕ) (budget : ℕ) (p q : Seen) (new : IsNew p) (least : 1 ≤ budget) (kept : IsHistory q.number q.history) where
   -- what was told at a wait and at a model
-  asked_of : AsksAreWritten → (standing q ≡ standing p) ⊎ Began form bytes budget (standing p) (standing q) → AreAsked form bytes q.history
+  asked_of : AsksAreWritten → (standing_of q ≡ standing_of p) ⊎ Began form bytes budget (standing_of p) (standing_of q) → AreAsked form bytes q.history
   asked_of written (inl same) before after e split c = no_split q.history before after e (ap (λ (s : Standing). s.history) same ∙ new.history) split
   asked_of written (inr b) before after e split c =
       let w = written budget before e (stands form bytes budget p q new b kept least before after e split) c in
       record { steps = b.steps; are = b.are; front = w.0; rest = w.1; split = w.2; told_is = w.3 }
 
 module _ (form : Form) (bytes : List ℕ) (budget : ℕ) (p q : Seen) (new : IsNew p) (least : 1 ≤ budget) (kept : IsHistory q.number q.history) (answered : CallsAreAnswered) (models : ModelsAreTrue) (failures : FailuresAreTrue) (unknown : UnknownIsSpent) where
-  true_of : (standing q ≡ standing p) ⊎ Began form bytes budget (standing p) (standing q) → AreTrue budget q.history
+  true_of : (standing_of q ≡ standing_of p) ⊎ Began form bytes budget (standing_of p) (standing_of q) → AreTrue budget q.history
   true_of (inl same) =
       let none : q.history ≡ [] = ap (λ (s : Standing). s.history) same ∙ new.history in
       record {
@@ -174,7 +175,7 @@ none_starved [] a h = h
 none_starved (e ∷ es) a (inl here) = not_proper e.call (subst (λ r. is_proper e.call r ≡ true) here a.0)
 none_starved (e ∷ es) a (inr there) = none_starved es a.1 there
 
-module _ (form : Form) (bytes : List ℕ) (budget : ℕ) (p q : Seen) (new : IsNew p) (least : 1 ≤ budget) (kept : IsHistory q.number q.history) (answered : CallsAreAnswered) (b : Began form bytes budget (standing p) (standing q)) (d : IsDenied b.calls) where
+module _ (form : Form) (bytes : List ℕ) (budget : ℕ) (p q : Seen) (new : IsNew p) (least : 1 ≤ budget) (kept : IsHistory q.number q.history) (answered : CallsAreAnswered) (b : Began form bytes budget (standing_of p) (standing_of q)) (d : IsDenied b.calls) where
   abbrev last : Entry
   last = d.0.last
 
@@ -197,24 +198,25 @@ module _ (form : Form) (bytes : List ℕ) (budget : ℕ) (p q : Seen) (new : IsN
       ]
 
   lost : HasLostWork q.history
-  lost = elim (lost_or_called IsStarved (λ e w h. h) p.number q.history (kept_own form bytes budget p q new b kept) starved) [
-    | inl gone ↦ (let h = has_contained IsLost q.history gone in (h.0, h.1, h.2.0, h.2.1))
-    | inr in_calls ↦ elim (has_split IsStarved d.0.before (last ∷ []) (subst (Has IsStarved) (own_is form bytes budget p q new b kept ∙ d.0.split) in_calls)) [
-      | inl before ↦ absurd (none_starved d.0.before d.0.proper before)
-      | inr (inl here) ↦ absurd (d.1 here)
-      | inr (inr none) ↦ absurd none
-    ]
-  ]
+  lost = elim (lost_or_called IsStarved (λ e w h. h) p.number q.history
+      (All-weaker (IsOwn p.number) (IsOurs p.number) (λ e o. inl o.by) q.history (kept_own form bytes budget p q new b kept)) starved) [
+        | inl gone ↦ (let h = has_contained IsLost q.history gone in (h.0, h.1, h.2.0, h.2.1))
+        | inr in_calls ↦ elim (has_split IsStarved d.0.before (last ∷ []) (subst (Has IsStarved) (own_is form bytes budget p q new b kept ∙ d.0.split) in_calls)) [
+          | inl before ↦ absurd (none_starved d.0.before d.0.proper before)
+          | inr (inl here) ↦ absurd (d.1 here)
+          | inr (inr none) ↦ absurd none
+        ]
+      ]
 
-denied_lost : (by : Solved) (form : Form) (budget : ℕ) (old now : World) (p q : Seen) → IsNew p → 1 ≤ budget → IsHistory q.number q.history → CallsAreAnswered → Solves by form budget old now (standing p) (standing q) → by ≡ solved.Denied → HasLostWork q.history
-denied_lost solved.Denied form budget old now p q new least kept answered s e = lost form s.bytes budget p q new least kept answered (stopped_began form budget old s.mid now (standing p) (standing q) s.bytes stops.Denied s.ends) s.ends.begun.cause.0
+denied_lost : (by : Solved) (form : Form) (budget : ℕ) (old now : World) (p q : Seen) → IsNew p → 1 ≤ budget → IsHistory q.number q.history → CallsAreAnswered → Solves by form budget old now (standing_of p) (standing_of q) → by ≡ solved.Denied → HasLostWork q.history
+denied_lost solved.Denied form budget old now p q new least kept answered s e = lost form s.bytes budget p q new least kept answered (stopped_began form budget old s.mid now (standing_of p) (standing_of q) s.bytes stops.Denied s.ends) s.ends.begun.cause.0
 denied_lost by form budget old now p q new least kept answered s e = absurd cc
 
 module _ (form : Form) (budget : ℕ) (old now : World) (p q : Seen) where
   no_cut : (mid : World) (text : List ℕ) → mid.failed_writes ≡ old.failed_writes → ¬ Rose old.failed_writes now.failed_writes → ¬ WroteCut mid now text
   no_cut mid text same calm cut = calm (subst (λ n. Rose n now.failed_writes) same cut.cause)
 
-  undisturbed_whole : (by : Solved) (s : Solves by form budget old now (standing p) (standing q)) → (by ≡ solved.Denied → HasLostWork q.history) → IsUndisturbed by s.bytes old now q → IsAnswered by
+  undisturbed_whole : (by : Solved) (s : Solves by form budget old now (standing_of p) (standing_of q)) → (by ≡ solved.Denied → HasLostWork q.history) → IsUndisturbed by s.bytes old now q → IsAnswered by
   undisturbed_whole solved.Sat s lost u = inl refl
   undisturbed_whole solved.Unsat s lost u = inr (inl refl)
   undisturbed_whole solved.Unknown s lost u = inr (inr (inl refl))
@@ -232,12 +234,46 @@ module _ (form : Form) (budget : ℕ) (old now : World) (p q : Seen) where
   undisturbed_whole solved.Denied s lost u = absurd (u.work (lost refl))
 
   -- all that holds of a file that was solved on a pass
-  pub has_solved : (by : Solved) → Solves by form budget old now (standing p) (standing q) → 1 ≤ budget → IsHistory q.number q.history → CallsAreAnswered → ModelsAreTrue → FailuresAreTrue → UnknownIsSpent → AsksAreWritten → HasSolved by form budget old now p q
-  has_solved by s least kept answered models failures unknown written = record {
+  pub has_solved : (by : Solved) → Solves by form budget old now (standing_of p) (standing_of q) → 1 ≤ budget → HoldsAsBefore p q → IsLegal q.history → (IsNew p → IsHistory q.number q.history)
+      → CallsAreAnswered → ModelsAreTrue → FailuresAreTrue → UnknownIsSpent → AsksAreWritten → HasSolved by form budget old now p q
+  has_solved by s least holds legal kept answered models failures unknown written = record {
     solves = s;
+    holds = holds;
+    legal = legal;
     kept = kept;
-    truths = λ new. true_of form s.bytes budget p q new least kept answered models failures unknown (began by form budget old now (standing p) (standing q) s);
-    asks = λ new. asked_of form s.bytes budget p q new least kept written (began by form budget old now (standing p) (standing q) s);
-    denied = λ new. denied_lost by form budget old now p q new least kept answered s;
-    whole = λ new. undisturbed_whole by s (denied_lost by form budget old now p q new least kept answered s);
+    truths = λ new. true_of form s.bytes budget p q new least (kept new) answered models failures unknown (began by form budget old now (standing_of p) (standing_of q) s);
+    asks = λ new. asked_of form s.bytes budget p q new least (kept new) written (began by form budget old now (standing_of p) (standing_of q) s);
+    denied = λ new. denied_lost by form budget old now p q new least (kept new) answered s;
+    whole = λ new. undisturbed_whole by s (denied_lost by form budget old now p q new least (kept new) answered s);
   }
+
+-- what the pass keeps, by what its calls did to it
+module _ (by : Solved) (form : Form) (budget : ℕ) (old now : World) (p q : Seen) (started : Option ℕ) (s : Solves by form budget old now (standing_of p) (standing_of q)) (v : Visits (visit p None) (visit q started)) where
+  -- the calls of a file are no stops
+  no_stops : ¬ Has IsStop (own_of p.number v.entries)
+  no_stops has = elim (began by form budget old now (standing_of p) (standing_of q) s) [
+    | inl same ↦
+        let none : v.entries ≡ [] = cancel p.history v.entries [] (sym v.history ∙ ap (λ (x : Standing). x.history) same ∙ sym (append-nil p.history)) in
+        subst (λ es. Has IsStop (own_of p.number es)) none has
+    | inr b ↦
+        let own : own_of p.number v.entries ≡ b.calls = ap (own_of p.number) (cancel p.history v.entries b.grown.entries (sym v.history ∙ b.grown.history)) ∙ b.grown.own_is in
+        file_calls budget b.steps (b.calls ++ b.rest) b.does (has_left IsStop b.calls b.rest (subst (Has IsStop) own has))
+  ]
+
+  holds : HoldsAsBefore p q
+  holds = record {
+    place = v.place;
+    number = v.number;
+    held = v.held;
+    kin = v.kin;
+    splits = v.splits;
+    asked = sym v.asked ∙ unasked p.number v.entries (asking (visit p None)) no_stops;
+  }
+
+  pub solved_on : 1 ≤ budget → HasCauses q → IsLegal q.history → AllowedIsReply → CallsAreAnswered → ModelsAreTrue → FailuresAreTrue → UnknownIsSpent → AsksAreWritten → HasSolved by form budget old now p q
+  solved_on least causes legal law = has_solved form budget old now p q by s least holds legal (λ new. kept p q v.entries new v.history v.own holds causes law legal v.busy)
+
+-- the visits from a pass to a pass, by other words for both
+pub visits_as : (p a b q : Seen) (s t : Option ℕ) → a ≡ p → s ≡ None → q ≡ b → Visits (visit a s) (visit b t) → Visits (visit p None) (visit q t)
+visits_as p a b q s t first fresh last v =
+    subst (λ (x : Seen). Visits (visit p None) (visit x t)) (sym last) (subst (λ (x : Option ℕ). Visits (visit p x) (visit b t)) fresh (subst (λ (x : Seen). Visits (visit x s) (visit b t)) first v))

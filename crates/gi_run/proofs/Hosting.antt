@@ -1,86 +1,91 @@
--- A session, and the shut behind it.
-use Rattle.std.proofs.Common.{◌≡◌, ◌⊎◌, ℕ, inl, inr, List, [], ◌∷◌, ◌++◌, All, refl, sym, ap, subst, ◌∙◌}
-use Rattle.std.proofs.lemmas.List.Elements.{All-cons, All-head, All-nil, All-tail}
+-- What follows of a session that was hosted.
+use Rattle.std.proofs.Common.{◌≡◌, ◌≢◌, ◌⊎◌, ℕ, ◌*◌, ◌^◌, ◌≤◌, ◌==◌, Bool, true, false, inl, inr, List, [], ◌∷◌, ◌++◌, length, All, get_or, refl, sym, ap, subst, ◌∙◌, eq-eqb}
+use Rattle.std.specs.Prelude.{drop}
+use Rattle.std.proofs.lemmas.Bool.{both_ways, eqb-true}
 use Rattle.gi_outside.specs.Link.{ins}
 use Rattle.gi_outside.specs.World.{World}
-use Rattle.gi_model.specs.State.{State, opening}
-use Rattle.gi_model.specs.Effects.{after}
-use Rattle.gi_model.specs.History.{Entry, IsLegalFrom}
+use Rattle.gi_model.specs.State.{opening}
+use Rattle.gi_model.specs.History.{Entry, IsLegal, IsLegalFrom}
+use Rattle.gi_model.specs.Refusals.{is_work as is_slice}
 use Rattle.gi_net.specs.declared.how.How.{How}
 use Rattle.gi_net.specs.declared.how.How.TheVariants as how
-use Rattle.gi_net.specs.Entries.{own_of}
+use Rattle.gi_net.specs.Entries.{all_own_of, is_work, own_of}
 use Rattle.gi_net.specs.Session.{Session}
 use Rattle.gi_net.specs.Standing.{Standing}
-use Rattle.gi_net.specs.Told.{TellsNoMemory}
 use Rattle.gi_net.proofs.Completing.{whole}
-use Rattle.gi_run.specs.Kept.{IsHistory, IsOwn}
-use Rattle.gi_run.specs.Outcome.{Hosts, Runs, exit_status}
-use Rattle.gi_run.specs.Seen.{Seen, standing}
-use Rattle.gi_run.specs.Shutting.{EndsSolve, HasEnded, HasLostWork, HasNoRoom, Shuts}
+use Rattle.gi_room.specs.Calls.{Sole}
+use Rattle.gi_room.specs.Seen.{Seen}
+use Rattle.gi_host.specs.Hosts.{Hosts, IsAlone}
+use Rattle.gi_host.specs.Laws.{UsesAQuarter}
+use Rattle.gi_host.specs.Visits.{standing_of}
+use Rattle.gi_run.specs.Outcome.{HasHosted, Runs, exit_status, session_of}
+use Rattle.gi_run.specs.Shutting.{EndsSolve, HasEnded, HasLostWork}
+use Rattle.gi_run.proofs.Alone.{all_front, cancel, same_work}
 use Rattle.gi_run.proofs.Having.{Has, has_contained}
-use Rattle.gi_run.proofs.Lost.{lost_work}
+use Rattle.gi_run.proofs.Lost.{IsOurs, lost_work}
 use Rattle.gi_run.proofs.Over.{ended_in}
-use Rattle.gi_run.proofs.Starving.{starved}
 
-legal_front : (xs ys : List Entry) (s : State) → IsLegalFrom s (xs ++ ys) → IsLegalFrom s xs
-legal_front [] ys s h = tt
-legal_front (x ∷ xs) ys s h = (h.0, legal_front xs ys (after s x.call x.reply) h.1)
+-- an entry that is work unless it is the session's own
+ours : (n : ℕ) (e : Entry) → (e.by ≢ n → is_slice e.call ≡ true) → IsOurs n e
+ours n e other = go (e.by == n) refl
+  where
+    go : (b : Bool) → (e.by == n) ≡ b → IsOurs n e
+    go true is = inl (eqb-true e.by n is)
+    go false is = inr (same_work e.call ∙ other (λ same. both_ways _ is (eq-eqb e.by n same)))
 
-own_front : (n : ℕ) (xs ys : List Entry) → All (IsOwn n) (xs ++ ys) → All (IsOwn n) xs
-own_front n [] ys h = All-nil (IsOwn n)
-own_front n (x ∷ xs) ys h = All-cons (IsOwn n) x xs (All-head (IsOwn n) x (xs ++ ys) h) (own_front n xs ys (All-tail (IsOwn n) x (xs ++ ys) h))
+module _ (old new : World) (first mid : Standing) (s : Session old new first mid how.Dead) (legal : IsLegal mid.history) where
+  ended : Has EndsSolve (first.history ++ s.entries)
+  ended = ended_in first.history s.entries (own_of first.number s.entries) _ s.served.front (subst (λ (es : List Entry). IsLegalFrom opening es) s.history legal.each) refl s.served.ends.0
 
-own_behind : (n : ℕ) (xs ys : List Entry) → All (IsOwn n) (xs ++ ys) → All (IsOwn n) ys
-own_behind n [] ys h = h
-own_behind n (x ∷ xs) ys h = own_behind n xs ys (All-tail (IsOwn n) x (xs ++ ys) h)
+  over_of : HasEnded mid.history
+  over_of = subst HasEnded (sym s.history) (has_contained EndsSolve (first.history ++ s.entries) ended)
 
-kept_front : (n : ℕ) (xs ys : List Entry) → IsHistory n (xs ++ ys) → IsHistory n xs
-kept_front n xs ys h = record { legal = record { each = legal_front xs ys opening h.legal.each }; own = own_front n xs ys h.own }
+  lost_of : All (IsOurs first.number) s.entries → ¬ HasEnded first.history → HasLostWork s.entries
+  lost_of own fresh = lost_work first.number first.history s.entries new.ended (ins s.added) s.served.front s.served.rest own ended fresh s.served.split s.served.calls_are s.served.ends.0
 
--- the history up to the shut is kept too
-pub kept_mid : (mid after : Standing) → Shuts mid after → IsHistory after.number after.history → IsHistory mid.number mid.history
-kept_mid mid after (inl shut) kept = kept_front mid.number mid.history _ (subst (IsHistory mid.number) shut.history (subst (λ (n : ℕ). IsHistory n after.history) shut.number kept))
-kept_mid mid after (inr none) kept = subst (λ (s : Standing). IsHistory s.number s.history) none.1 kept
+over : (old new : World) (first mid : Standing) (by : How) → Session old new first mid by → IsLegal mid.history → by ≡ how.Dead → HasEnded mid.history
+over old new first mid how.Dead s legal e = over_of old new first mid s legal
+over old new first mid by s legal e = absurd cc
 
-ended : (old new : World) (before mid : Standing) (s : Session old new before mid how.Dead) → IsHistory mid.number mid.history → Has EndsSolve (before.history ++ s.entries)
-ended old new before mid s kept = ended_in before.history s.entries (own_of before.number s.entries) _ s.served.front (subst (λ (es : List Entry). IsLegalFrom opening es) s.history kept.legal.each) refl s.served.ends.0
+pub lost : (old new : World) (first mid : Standing) (by : How) (s : Session old new first mid by) → IsLegal mid.history → All (IsOurs first.number) s.entries → by ≡ how.Dead → ¬ HasEnded first.history → HasLostWork s.entries
+lost old new first mid how.Dead s legal own e fresh = lost_of old new first mid s legal own fresh
+lost old new first mid by s legal own e fresh = absurd cc
 
-over : (old new : World) (before mid : Standing) (by : How) → Session old new before mid by → IsHistory mid.number mid.history → by ≡ how.Dead → HasEnded mid.history
-over old new before mid how.Dead s kept e = subst HasEnded (sym s.history) (has_contained EndsSolve (before.history ++ s.entries) (ended old new before mid s kept))
-over old new before mid by s kept e = absurd cc
+used : UsesAQuarter → (old new : World) (p q : Seen) (by : How) (h : Hosts old new p q by) → by ≡ how.TooMuch
+    → (2 ^ 62 ≤ length (ins (session_of h).added)) ⊎ (p.left ≤ 4 * length (all_own_of p.number (session_of h).entries))
+used law old new p q how.TooMuch h e = law old new p q h
+used law old new p q by h e = absurd cc
 
-lost : (old new : World) (p : Seen) (mid : Standing) (by : How) (s : Session old new (standing p) mid by) → IsHistory mid.number mid.history → by ≡ how.Dead → ¬ HasEnded p.history → HasLostWork s.entries
-lost old new p mid how.Dead s kept e fresh =
-    lost_work p.number p.history s.entries new.ended (ins s.added) s.served.front s.served.rest
-    (own_behind p.number p.history s.entries (subst (All (IsOwn p.number)) s.history (subst (λ (n : ℕ). All (IsOwn n) mid.history) s.number kept.own)))
-    (ended old new (standing p) mid s kept) fresh s.served.split s.served.calls_are s.served.ends.0
-lost old new p mid by s kept e fresh = absurd cc
+module _ (old new : World) (p q : Seen) (by : How) (h : Hosts old new p q by) where
+  abbrev s : Session old new (standing_of h.first) (standing_of h.mid) by
+  s = session_of h
 
-of_session : (old new : World) (p : Seen) (mid after : Standing) (by : How) (s : Session old new (standing p) mid by) → Shuts mid after ⊎ HasNoRoom old new (standing p) mid after by
-    → IsHistory mid.number mid.history → IsHistory after.number after.history → Hosts old new (standing p) after by
-of_session old new p mid after by s behind kept_mid kept = record {
-  mid = mid;
-  session = s;
-  behind = behind;
-  kept = kept;
-  over = over old new (standing p) mid by s kept_mid;
-  lost = lost old new p mid by s kept_mid;
-  whole = whole old new (standing p) mid by s;
-}
+  same_entries : h.serves.visits.entries ≡ s.entries
+  same_entries = cancel h.first.history h.serves.visits.entries s.entries (sym h.serves.visits.history ∙ s.history)
 
-pub hosted : (old new : World) (p : Seen) (start mid after : Standing) (by : How) → start ≡ standing p → Session old new start mid by → Shuts mid after → IsHistory after.number after.history → Hosts old new (standing p) after by
-hosted old new p start mid after by same s shut kept =
-    of_session old new p mid after by (subst (λ (x : Standing). Session old new x mid by) same s) (inl shut) (kept_mid mid after shut kept) kept
+  -- for a sole pass all entries of the session are its own, or others' work
+  all_ours : Sole p → All (IsOurs h.first.number) s.entries
+  all_ours sole =
+      let others : All (λ (e : Entry). e.by ≢ p.number → is_slice e.call ≡ true) h.serves.visits.entries =
+      all_front (λ (e : Entry). e.by ≢ p.number → is_slice e.call ≡ true) h.serves.visits.entries h.behind (h.alone sole).others in
+      subst (λ es. All (IsOurs h.first.number) es) same_entries (λ k d lt. ours h.first.number (get_or h.serves.visits.entries k d) (λ n. others k d lt (λ is. n (is ∙ sym h.number))))
 
-pub unhosted : (old new : World) (p : Seen) (after : Standing) (by : How) → after ≡ standing p → TellsNoMemory by old new → IsHistory after.number after.history → Hosts old new (standing p) after by
-unhosted old new p after by same told kept =
-    of_session old new p (standing p) after by (starved old new (standing p) by told) (inr (record { none = refl; same = same; told = told })) (subst (λ (s : Standing). IsHistory s.number s.history) same kept) kept
+  pub has_hosted : UsesAQuarter → HasHosted old new p q by
+  has_hosted law = record {
+    hosts = h;
+    over = over old new (standing_of h.first) (standing_of h.mid) by s h.serves.legal;
+    lost = λ e sole fresh. lost old new (standing_of h.first) (standing_of h.mid) by s h.serves.legal (all_ours sole) e (λ ended. fresh (subst HasEnded h.history ended));
+    used = used law old new p q by h;
+    whole = whole old new (standing_of h.first) (standing_of h.mid) by s;
+  }
 
 -- the status of such a session
-pub runs : (old new : World) (before after : Standing) (by : How) (status : ℕ) → Hosts old new before after by → status ≡ exit_status by → Runs old new before after status
-runs old new before after by status hosts is = record {
+pub runs : (quiet : Bool) (old new : World) (p q : Seen) (by : How) (status : ℕ) → HasHosted old new p q by → (quiet ≡ true → Sole p → All (λ (e : Entry). e.by ≡ p.number) (drop (length p.history) q.history))
+    → status ≡ exit_status by → Runs quiet old new p q status
+runs quiet old new p q by status has own is = record {
   by = by;
-  hosts = hosts;
+  has = has;
+  own = own;
   status_is = is;
-  fine = λ calm. elim (hosts.whole calm).ends [ inl bye ↦ is ∙ ap exit_status bye | inr eof ↦ is ∙ ap exit_status eof ];
+  fine = λ calm. elim (has.whole calm).ends [ inl bye ↦ is ∙ ap exit_status bye | inr eof ↦ is ∙ ap exit_status eof ];
 }

@@ -1,12 +1,12 @@
-pub mod Replying
-pub mod Keeping
-pub mod Passing
-pub mod Starving
 pub mod Having
+pub mod Alone
+pub mod Unasked
 pub mod Over
 pub mod Asking
 pub mod Lost
 pub mod Hosting
+pub mod Closing
 pub mod Printing
 pub mod Filing
 pub mod Playing
+pub mod Placing

@@ -1,6 +1,7 @@
 -- A machine that a session finds over though nobody shut it.
 use Rattle.std.proofs.Common.{◌≡◌, ◌≢◌, ℕ, ◌==◌, Bool, true, false, not, ◌&&◌, cond, List, [], ◌∷◌, ◌++◌, length, map, All, option_to_list, ◌⊎◌, inl, inr, refl, sym, subst, ◌∙◌, arith, eq-eqb}
 use Rattle.std.specs.List.{AllByRecursion}
+use Rattle.std.proofs.lemmas.Bool.{both_ways}
 use Rattle.std.proofs.lemmas.List.Elements.{All-head, All-tail}
 use Rattle.gi_model.specs.History.{Entry}
 use Rattle.gi_model.specs.declared.calls.Call.{Call}
@@ -16,7 +17,6 @@ use Rattle.gi_net.specs.Answers.{Answer, answers, call_in, calls, replies_after,
 use Rattle.gi_net.specs.Entries.{is_work, own_of, replies}
 use Rattle.gi_net.specs.Served.{EndsBy, IsQuiet}
 use Rattle.gi_net.proofs.Answering.{replies_fit}
-use Rattle.gi_run.specs.Kept.{IsOwn}
 use Rattle.gi_run.specs.Shutting.{EndsSolve, HasEnded, HasLostWork}
 use Rattle.gi_run.proofs.Asking.{never_called}
 use Rattle.gi_run.proofs.Having.{Has, has_contained, has_split}
@@ -28,20 +28,28 @@ IsLost e = (is_work e.call ≡ true) × (e.reply ≡ reply.NoMemory)
 abbrev IsStarved : Reply → Type 0
 IsStarved r = r ≡ reply.NoMemory
 
+-- an entry of the caller with that number, or another's work
+abbrev pub IsOurs : ℕ → Entry → Type 0
+IsOurs n e = (e.by ≡ n) ⊎ (is_work e.call ≡ true)
+
+by_of : (n : ℕ) (e : Entry) → is_work e.call ≡ false → IsOurs n e → e.by ≡ n
+by_of n e call (inl by) = by
+by_of n e call (inr work) = absurd (both_ways _ call work)
+
 no_shut : (c : Call) → is_work c ≡ true → c ≢ call.Shut
 no_shut (call.Work mark) w e = absurd cc
 no_shut c w e = absurd cc
 
 -- an entry of a kind is lost work or a call, where no other work is of that kind
 module _ (P : Entry → Type 0) (only_lost : (e : Entry) → is_work e.call ≡ true → P e → e.reply ≡ reply.NoMemory) where
-  pub lost_or_called : (n : ℕ) (es : List Entry) → All (IsOwn n) es → Has P es → Has IsLost es ⊎ Has P (own_of n es)
+  pub lost_or_called : (n : ℕ) (es : List Entry) → All (IsOurs n) es → Has P es → Has IsLost es ⊎ Has P (own_of n es)
   lost_or_called n [] own h = absurd h
   lost_or_called n (e ∷ es) own (inl here) = go (is_work e.call) refl
     where
       go : (w : Bool) → is_work e.call ≡ w → (IsLost e ⊎ Has IsLost es) ⊎ Has P (cond ((e.by == n) && not (is_work e.call)) (e ∷ own_of n es) (own_of n es))
       go true w = inl (inl (w, only_lost e w here))
-      go false w = rw (eq-eqb e.by n (All-head (IsOwn n) e es own).by, w) (inr (inl here))
-  lost_or_called n (e ∷ es) own (inr there) = elim (lost_or_called n es (All-tail (IsOwn n) e es own) there) [
+      go false w = rw (eq-eqb e.by n (by_of n e w (All-head (IsOurs n) e es own)), w) (inr (inl here))
+  lost_or_called n (e ∷ es) own (inr there) = elim (lost_or_called n es (All-tail (IsOurs n) e es own) there) [
     | inl lost ↦ inl (inr lost)
     | inr called ↦ inr (go ((e.by == n) && not (is_work e.call)) called)
   ]
@@ -99,7 +107,7 @@ not_called ended bytes front rest own split same ends h = elim (shut_or_starved 
 ]
 
 -- so it was lost work
-pub lost_work : (n : ℕ) (seen entries : List Entry) (ended : Bool) (bytes : List ℕ) (front rest : List Request) → All (IsOwn n) entries → Has EndsSolve (seen ++ entries) → ¬ HasEnded seen
+pub lost_work : (n : ℕ) (seen entries : List Entry) (ended : Bool) (bytes : List ℕ) (front rest : List Request) → All (IsOurs n) entries → Has EndsSolve (seen ++ entries) → ¬ HasEnded seen
     → items ended bytes ≡ front ++ rest → map (λ (e : Entry). e.call) (own_of n entries) ≡ calls front
     → EndsBy (answers front (replies (own_of n entries))) (reply.Refused refusal.Dead) → HasLostWork entries
 lost_work n seen entries ended bytes front rest own ends fresh split same by = elim (has_split EndsSolve seen entries ends) [

@@ -1,13 +1,13 @@
 -- A drill that was served on a pass.
-use Rattle.std.proofs.Common.{◌≡◌, ◌≢◌, ℕ, ◌+◌, ◌<◌, ◌≤◌, Bool, true, false, Option, Some, None, option_map, option_to_list, List, [], ◌∷◌, ◌++◌, length, map, take, get_or, ◌⊎◌, inl, inr, refl, sym, ap, subst, ◌∙◌, arith, eq-eqb, append-nil, append_assoc, length-append}
+use Rattle.std.proofs.Common.{◌≡◌, ◌≢◌, ℕ, ◌+◌, ◌<◌, ◌≤◌, ◌==◌, Bool, true, false, Option, Some, None, option_map, option_to_list, List, [], ◌∷◌, ◌++◌, length, map, ◌⊎◌, inl, inr, refl, sym, ap, subst, ◌∙◌, arith, eq-eqb, append-nil, append_assoc, length-append}
 use Rattle.std.specs.Option.{IfSome}
 use Rattle.std.specs.List.{All, AllByRecursion, Contains}
-use Rattle.std.proofs.lemmas.List.{take_more, get_or-map, length-map}
-use Rattle.std.proofs.lemmas.List.Elements.{All-head, All-tail, Contains-append_left}
-use Rattle.gi_outside.specs.Link.{ins}
-use Rattle.gi_outside.specs.World.{World}
+use Rattle.std.specs.Prelude.{drop}
+use Rattle.std.proofs.Math.Seq.{drop-append_seam}
+use Rattle.std.proofs.lemmas.List.Elements.{All-append, All-head, All-nil, All-tail, All-weaker, Contains-append_left, Contains-append_right, filter-append}
+use Rattle.gi_outside.specs.Link.{Rose, ins}
+use Rattle.gi_outside.specs.World.{World, Wrote, WroteCut}
 use Rattle.gi_model.specs.History.{Entry, IsLegal}
-use Rattle.gi_model.specs.Refusals.{is_work}
 use Rattle.gi_model.specs.declared.calls.Call.{Call}
 use Rattle.gi_model.specs.declared.calls.Call.TheVariants as call
 use Rattle.gi_model.specs.declared.replies.Reply.{Reply}
@@ -18,42 +18,47 @@ use Rattle.gi_wire.specs.declared.reader.RequestKind.{RequestKind}
 use Rattle.gi_wire.specs.declared.reader.RequestKind.TheVariants as asked
 use Rattle.gi_wire.specs.declared.reader.Request.{Request}
 use Rattle.gi_net.specs.Answers.{Answer, answers, call_in, calls, replies_after, reply_for}
-use Rattle.gi_net.specs.Entries.{is_work as worked, own_of, replies}
+use Rattle.gi_net.specs.Entries.{all_own_of, own_of, replies}
+use Rattle.gi_net.specs.Laws.{AllowedIsReply}
+use Rattle.gi_net.specs.Over.{Over}
 use Rattle.gi_net.specs.Served.{IsQuiet}
 use Rattle.gi_net.specs.Session.{Session}
 use Rattle.gi_net.specs.Standing.{Standing}
 use Rattle.gi_net.specs.declared.how.How.{How}
 use Rattle.gi_net.specs.declared.how.How.TheVariants as how
 use Rattle.gi_net.proofs.Answering.{calls-append, replies_fit}
+use Rattle.gi_drill.specs.Counted.{tally_since}
 use Rattle.gi_drill.specs.Counting.{noted, tally_from, tally_of}
-use Rattle.gi_drill.specs.Laws.{ByeIsLast, ClausesAreTaken, FewAreSat, FewAreUnsat, IsLively, Plays, ScriptIsRead, ScriptIsShort, VariablesAreTold, without_work}
+use Rattle.gi_drill.specs.Laws.{ByeIsLast, CallsAloneAreCounted, ClausesAreTaken, FewAreSat, FewAreUnsat, IsLively, Plays, ScriptIsRead, ScriptIsShort, VariablesAreTold, without_work}
+use Rattle.gi_drill.specs.Printing.{tally_text}
 use Rattle.gi_drill.specs.Script.{numbered, script, script_text}
 use Rattle.gi_drill.specs.declared.tally.Tally.{Tally}
 use Rattle.gi_run.specs.declared.drilling.Drilled.{Drilled}
 use Rattle.gi_run.specs.declared.drilling.Drilled.TheVariants as drilled
-use Rattle.gi_run.specs.Drilling.{AreCounted, DrillEnds, HasDrilled, IsPlayed, IsUndisturbed, TellsDrill}
-use Rattle.gi_run.specs.Kept.{IsHistory, IsOwn}
-use Rattle.gi_run.specs.Outcome.{Hosts}
-use Rattle.gi_run.specs.Seen.{Seen, history_of, own, standing}
-use Rattle.gi_run.specs.Shutting.{HasEnded, HasLostWork, HasNoRoom, Shuts}
-use Rattle.gi_run.specs.Solving.{IsNew}
-use Rattle.gi_run.specs.declared.entry.Entry.{Entry as Noted}
-use Rattle.gi_run.proofs.Having.{Has, has_right}
-use Rattle.gi_run.proofs.Hosting.{kept_mid}
+use Rattle.gi_room.specs.Calls.{HasCauses, HoldsAsBefore}
+use Rattle.gi_room.specs.Seen.{Seen}
+use Rattle.gi_host.specs.Hosts.{Hosts, IsShutAlone, Shuts}
+use Rattle.gi_host.specs.Laws.{UsesAQuarter}
+use Rattle.gi_host.specs.Visits.{IsBusy, Visits, asking, standing_of, visit}
+use Rattle.gi_host.proofs.Hosting.{hosted_alone, never_starved}
+use Rattle.gi_run.specs.Drilling.{AreCounted, DrillEnds, HasDrilled, IsPlayed, IsUndisturbed, ServesCounted, TellsDrill, tally_of_calls}
+use Rattle.gi_run.specs.Drilling as drill
+use Rattle.gi_run.specs.Kept.{IsHistory, IsNew, IsOwn}
+use Rattle.gi_run.specs.Shutting.{HasEnded, HasLostWork}
+use Rattle.gi_run.proofs.Alone.{all_front, cancel, kept, same_work}
+use Rattle.gi_run.proofs.Closing.{Closed, closed, same_calls}
+use Rattle.gi_run.proofs.Filing.{visits_as}
+use Rattle.gi_run.proofs.Having.{Has, has_left, has_right}
+use Rattle.gi_run.proofs.Hosting.{has_hosted, lost}
+use Rattle.gi_run.proofs.Lost.{IsOurs}
 use Rattle.gi_run.proofs.Over.{first_is, rest_is}
+use Rattle.gi_run.proofs.Unasked.{IsStop, called_stop, script_calls, unasked}
 
 -- one entry more is counted
 pub tally_push : (es : List Entry) (e : Entry) (t : Tally) → tally_from t (es ++ e ∷ []) ≡ noted (tally_from t es) e.call e.reply
 unfolding tally_from
 tally_push [] e t = refl
 tally_push (x ∷ es) e t = tally_push es e (noted t x.call x.reply)
-
-pub tally_more : (n : ℕ) (es : List Noted) (history : List Entry) (i : ℕ) (x : Noted) → history_of n es ≡ history → i < length es → x ≡ get_or es i x
-    → tally_of (take (i + 1) history) ≡ noted (tally_of (take i history)) x.call x.reply
-tally_more n es history i x same lt is =
-    let len : i < length history = subst (λ hs. i < length hs) same (subst (λ m. i < m) (sym (length-map es (own n))) lt) in
-    let at : get_or history i (own n x) ≡ own n x = ap (λ hs. get_or hs i (own n x)) (sym same) ∙ get_or-map (own n) es i x (own n x) lt ∙ ap (own n) (sym is) in
-    ap tally_of (take_more history i (own n x) len ∙ ap (λ y. take i history ++ y ∷ []) at) ∙ tally_push (take i history) (own n x) _
 
 -- the items of a front of the bytes are a front of the items of all
 pub front_items : (stay : ItemsStay) (ended : Bool) (bytes rest : List ℕ) → (ended ≡ true → rest ≡ []) → (more : List Request) × (items ended bytes ++ more ≡ items ended (bytes ++ rest))
@@ -162,10 +167,6 @@ module _ (rounds : ℕ) (start end : World) (first mid : Standing) (stay : Items
       let cs : calls s.served.front ≡ b.0 ++ call.Bye ∷ [] = ap calls (front ∙ all) ∙ calls_numbered 1 (script rounds) ∙ b.1 in
       quiet_none s.served.front (replies (own_of first.number s.entries)) ends.2 (subst (Has (λ (c : Call). c ≡ call.Bye)) (sym cs) (has_last b.0 call.Bye))
 
-same_work : (c : Call) → worked c ≡ is_work c
-same_work (call.Work mark) = refl
-same_work other = refl
-
 -- the calls of a pass are all its entries but work
 own_without_work : (n : ℕ) (es : List Entry) → All (IsOwn n) es → own_of n es ≡ without_work es
 own_without_work n [] h = refl
@@ -197,158 +198,257 @@ lively_entries [] h = tt
 lively_entries (e ∷ es) h = (h.0, lively_entries es h.1)
 
 -- a shut isn't counted
-tally_shut : (es : List Entry) (e : Entry) → e.call ≡ call.Shut → tally_of (es ++ e ∷ []) ≡ tally_of es
-tally_shut es e is = tally_push es e _ ∙ ap (λ c. noted (tally_of es) c e.reply) is
+shut_uncounted : (xs rest : List Entry) (n : ℕ) → IsShutAlone n rest → tally_of (xs ++ own_of n rest) ≡ tally_of xs
+shut_uncounted xs rest n (inl none) = ap (λ es. tally_of (xs ++ es)) (sym (same_calls n rest) ∙ none) ∙ ap tally_of (append-nil xs)
+shut_uncounted xs rest n (inr one) = ap (λ es. tally_of (xs ++ es)) (sym (same_calls n rest) ∙ one.1) ∙ tally_push xs (record { by = n; call = call.Shut; reply = one.0 }) _
 
--- what stands behind a session on a pass: nothing, or a shut
-abbrev IsBehind : Standing → Standing → Type 0
-IsBehind mid after = (back : List Entry) × (after.history ≡ mid.history ++ back) × (tally_of after.history ≡ tally_of mid.history)
+module _ (start end : World) (p q : Seen) (by : How) (t : Tally) (c : ServesCounted start end p q by t) where
+  abbrev s : Session start end (standing_of p) (standing_of c.mid) by
+  s = c.serves.over.session
 
-behind_of : (mid after : Standing) → Shuts mid after → IsBehind mid after
-behind_of mid after (inl shut) = (_, shut.history, ap tally_of shut.history ∙ tally_shut mid.history _ refl)
-behind_of mid after (inr none) = ([], ap (λ (s : Standing). s.history) none.1 ∙ sym (append-nil mid.history), ap (λ (s : Standing). tally_of s.history) none.1)
+  abbrev v : Visits (visit p None) (visit c.mid c.serves.started)
+  v = c.serves.visits
+
+  abbrev back : Closed c.mid q
+  back = closed c.mid q c.shuts
+
+  same_entries : s.entries ≡ v.entries
+  same_entries = cancel p.history s.entries v.entries (sym s.history ∙ v.history)
+
+  history : q.history ≡ p.history ++ (v.entries ++ back.rest)
+  history = back.history ∙ ap (λ es. es ++ back.rest) v.history ∙ append_assoc p.history v.entries back.rest
+
+  -- what is printed is the count of the calls
+  pub tally_is : t ≡ tally_of_calls p q
+  tally_is =
+      let before : drop (length p.history) c.mid.history ≡ v.entries = ap (drop (length p.history)) v.history ∙ drop-append_seam p.history v.entries in
+      let after : drop (length p.history) q.history ≡ v.entries ++ back.rest = ap (drop (length p.history)) history ∙ drop-append_seam p.history (v.entries ++ back.rest) in
+      let split : own_of p.number (v.entries ++ back.rest) ≡ own_of p.number v.entries ++ own_of p.number back.rest = filter-append _ v.entries back.rest in
+      c.tally_is ∙ ap (λ es. tally_of (own_of p.number es)) before
+      ∙ sym (shut_uncounted (own_of p.number v.entries) back.rest p.number (subst (λ (n : ℕ). IsShutAlone n back.rest) v.number back.alone))
+      ∙ ap tally_of (sym split) ∙ ap (λ es. tally_of (own_of p.number es)) (sym after)
+
+  pub hosts_of : Hosts start end p q by
+  hosts_of = hosted_alone start end p c.mid q by c.serves c.shuts c.causes c.legal
+
+  -- where no call was left, none is
+  pub left_none : c.mid.left ≡ 0 → q.left ≡ 0
+  left_none none = elim c.shuts [ inl same ↦ ap (λ (x : Seen). x.left) same.1 ∙ none | inr some ↦ absurd (let more = some.0 in omega arith) ]
+
+  pub lost_after : HasLostWork s.entries → HasLostWork q.history
+  lost_after lost = (
+    lost.0,
+    subst (λ hs. Contains hs lost.0) (sym back.history) (Contains-append_left c.mid.history back.rest lost.0
+        (subst (λ hs. Contains hs lost.0) (sym s.history) (Contains-append_right p.history s.entries lost.0 lost.1))),
+    lost.2,
+    lost.3,
+  )
+
+  module _ (rounds : ℕ) (stay : ItemsStay) (read : ScriptIsRead) (bye_last : ByeIsLast) (rest : start.rest ≡ Some (script_text rounds)) (empty : end.ended ≡ true → IfSome end.rest (λ bytes. bytes ≡ [])) where
+    -- the script asks for no stop
+    no_stops : ¬ Has IsStop (own_of p.number v.entries)
+    no_stops has =
+        let f = front_of rounds start end (standing_of p) (standing_of c.mid) stay read bye_last rest empty by s in
+        let own : Has IsStop (own_of p.number s.entries) = subst (λ es. Has IsStop (own_of p.number es)) (sym same_entries) has in
+        script_calls rounds (subst (Has (λ (d : Call). d ≡ call.Stop)) f.1 (has_left (λ (d : Call). d ≡ call.Stop) (calls s.served.front) f.0
+        (subst (Has (λ (d : Call). d ≡ call.Stop)) s.served.calls_are (called_stop (own_of p.number s.entries) own))))
+
+    holds : HoldsAsBefore p q
+    holds = record {
+      place = back.holds.place ∙ v.place;
+      number = back.holds.number ∙ v.number;
+      held = back.holds.held ∙ v.held;
+      kin = back.holds.kin ∙ v.kin;
+      splits = back.holds.splits ∙ v.splits;
+      asked = back.holds.asked ∙ sym v.asked ∙ unasked p.number v.entries (asking (visit p None)) no_stops;
+    }
+
+    own : All (λ (e : Entry). Contains p.held e.by → e.by ≡ p.number) (v.entries ++ back.rest)
+    own = All-append (λ (e : Entry). Contains p.held e.by → e.by ≡ p.number) v.entries back.rest v.own
+        (All-weaker (λ (e : Entry). Contains c.mid.held e.by → e.by ≡ c.mid.number) (λ (e : Entry). Contains p.held e.by → e.by ≡ p.number)
+        (λ e h has. h (subst (λ ns. Contains ns e.by) (sym v.held) has) ∙ v.number) back.rest back.only)
+
+    busy : All IsBusy (all_own_of p.number (v.entries ++ back.rest))
+    busy = subst (All IsBusy) (sym (filter-append (λ (e : Entry). e.by == p.number) v.entries back.rest))
+        (All-append IsBusy (all_own_of p.number v.entries) (all_own_of p.number back.rest) v.busy (subst (λ (n : ℕ). All IsBusy (all_own_of n back.rest)) v.number back.busy))
+
+    pub kept_of : AllowedIsReply → IsNew p → IsHistory q.number q.history
+    kept_of law new = kept p q (v.entries ++ back.rest) new history own holds c.causes law c.legal busy
+
+    pub number_is : q.number ≡ p.number
+    number_is = holds.number
+
+    pub place_is : q.place ≡ p.place
+    place_is = holds.place
 
 module _ (rounds : ℕ) (few : rounds ≤ 10000) (start end : World) (p q : Seen) (stay : ItemsStay) (read : ScriptIsRead) (bye_last : ByeIsLast) (rest : start.rest ≡ Some (script_text rounds)) (empty : end.ended ≡ true → IfSome end.rest (λ bytes. bytes ≡ []))
-    (new : IsNew p) (h : Hosts start end (standing p) (standing q) how.Bye) where
-  shuts_of : Shuts h.mid (standing q) ⊎ HasNoRoom start end (standing p) h.mid (standing q) how.Bye → Shuts h.mid (standing q)
-  shuts_of (inl shut) = shut
-  shuts_of (inr none) = elim none.told [ ]
+    (law : AllowedIsReply) (new : IsNew p) (t : Tally) (c : ServesCounted start end p q how.Bye t) where
+  abbrev session : Session start end (standing_of p) (standing_of c.mid) how.Bye
+  session = c.serves.over.session
 
-  shuts : Shuts h.mid (standing q)
-  shuts = shuts_of h.behind
+  abbrev behind : Closed c.mid q
+  behind = closed c.mid q c.shuts
 
-  entered_mid : h.mid.history ≡ h.session.entries
-  entered_mid = h.session.history ∙ ap (λ es. es ++ h.session.entries) new.history
+  same_number : q.number ≡ p.number
+  same_number = number_is start end p q how.Bye t c rounds stay read bye_last rest empty
 
-  kept : IsHistory h.mid.number h.mid.history
-  kept = kept_mid h.mid (standing q) shuts h.kept
+  kept_own : All (IsOwn p.number) c.mid.history
+  kept_own = all_front (IsOwn p.number) c.mid.history behind.rest (subst (All (IsOwn p.number)) behind.history
+      (subst (λ (n : ℕ). All (IsOwn n) q.history) same_number (kept_of start end p q how.Bye t c rounds stay read bye_last rest empty law new).own))
 
-  -- the pass keeps its number
-  kept_own : All (IsOwn p.number) h.mid.history
-  kept_own = subst (λ (n : ℕ). All (IsOwn n) h.mid.history) h.session.number kept.own
+  entered_mid : c.mid.history ≡ session.entries
+  entered_mid = session.history ∙ ap (λ es. es ++ session.entries) new.history
 
-  number_of : (s : Standing) → Shuts h.mid s → s.number ≡ h.mid.number
-  number_of s (inl shut) = shut.number
-  number_of s (inr none) = ap (λ (x : Standing). x.number) none.1
+  calls_are : map (λ (e : Entry). e.call) (own_of p.number c.mid.history) ≡ script rounds
+  calls_are = ap (λ es. map (λ (e : Entry). e.call) (own_of p.number es)) entered_mid ∙ all_called rounds start end (standing_of p) (standing_of c.mid) stay read bye_last rest empty session
 
-  number_is : q.number ≡ p.number
-  number_is = number_of (standing q) shuts ∙ h.session.number
-
-  calls_are : map (λ (e : Entry). e.call) (own_of p.number h.mid.history) ≡ script rounds
-  calls_are = ap (λ es. map (λ (e : Entry). e.call) (own_of p.number es)) entered_mid ∙ all_called rounds start end (standing p) h.mid stay read bye_last rest empty h.session
-
-  lively : AllByRecursion (λ (e : Entry). IsLively e.reply) (without_work h.mid.history)
+  lively : AllByRecursion (λ (e : Entry). IsLively e.reply) (without_work c.mid.history)
   lively =
-      let ends = h.session.served.ends.0 in
+      let ends = session.served.ends.0 in
       let given = subst (AllByRecursion (λ (a : Answer). IsLively a.reply)) (sym ends.by.split) (lively_answers ends.by.before ends.by.last ends.by.quiet ends.by.is) in
-      let own = lively_entries (own_of p.number h.session.entries) (lively_replies h.session.served.front (replies (own_of p.number h.session.entries)) (replies_fit h.session.served.front (own_of p.number h.session.entries) h.session.served.calls_are) given) in
-      subst (AllByRecursion (λ (e : Entry). IsLively e.reply)) (ap (own_of p.number) (sym entered_mid) ∙ own_without_work p.number h.mid.history kept_own) own
+      let own = lively_entries (own_of p.number session.entries) (lively_replies session.served.front (replies (own_of p.number session.entries)) (replies_fit session.served.front (own_of p.number session.entries) session.served.calls_are) given) in
+      subst (AllByRecursion (λ (e : Entry). IsLively e.reply)) (ap (own_of p.number) (sym entered_mid) ∙ own_without_work p.number c.mid.history kept_own) own
 
-  behind : IsBehind h.mid (standing q)
-  behind = behind_of h.mid (standing q) shuts
-
-  plays : Plays rounds h.mid.history behind.0
+  plays : Plays rounds c.mid.history behind.rest
   plays = record {
     few = few;
-    legal = subst IsLegal behind.1 h.kept.legal;
-    calls_are = ap (map (λ (e : Entry). e.call)) (sym (own_without_work p.number h.mid.history kept_own)) ∙ calls_are;
+    legal = subst IsLegal behind.history c.legal;
+    calls_are = ap (map (λ (e : Entry). e.call)) (sym (own_without_work p.number c.mid.history kept_own)) ∙ calls_are;
     lively = lively;
   }
 
   pub played_of : IsPlayed rounds q
   played_of = record {
-    mid = h.mid.history;
-    left = h.mid.left;
-    calls_are = subst (λ (n : ℕ). map (λ (e : Entry). e.call) (own_of n h.mid.history) ≡ script rounds) (sym number_is) calls_are;
-    shuts = let P : ℕ → Type 0 = λ n. Shuts (record { number = n; history = h.mid.history; left = h.mid.left }) (standing q) in subst P (sym (number_of (standing q) shuts)) shuts;
+    mid = c.mid.history;
+    behind = behind.rest;
+    split = behind.history;
+    calls_are = subst (λ (n : ℕ). map (λ (e : Entry). e.call) (own_of n c.mid.history) ≡ script rounds) (sym same_number) calls_are;
+    shut = subst (λ (n : ℕ). IsShutAlone n behind.rest) (sym behind.holds.number) behind.alone;
+    spent = λ none. behind.spent (subst (λ (n : ℕ). own_of n behind.rest ≡ []) behind.holds.number none);
   }
 
-  pub counted_of : VariablesAreTold → ClausesAreTaken → FewAreSat → FewAreUnsat → AreCounted rounds q
-  counted_of vars clauses sat unsat = record {
-    vars = ap (λ (t : Tally). t.vars) behind.2 ∙ vars rounds h.mid.history behind.0 plays;
-    clauses = ap (λ (t : Tally). t.clauses) behind.2 ∙ clauses rounds h.mid.history behind.0 plays;
-    sat = subst (λ (t : Tally). t.sat ≤ 2) (sym behind.2) (sat rounds h.mid.history behind.0 plays);
-    unsat = subst (λ (t : Tally). t.unsat ≤ rounds) (sym behind.2) (unsat rounds h.mid.history behind.0 plays);
-  }
+  -- all that was counted is counted of the history
+  tally_mid : CallsAloneAreCounted → tally_of_calls p q ≡ tally_of c.mid.history
+  tally_mid alone =
+      sym (tally_is start end p q how.Bye t c) ∙ c.tally_is
+      ∙ ap (λ (es : List Entry). tally_of (own_of p.number (drop (length es) c.mid.history))) new.history
+      ∙ ap tally_of (own_without_work p.number c.mid.history kept_own) ∙ alone c.mid.history
 
--- how much of a history is lost work
-lost_in : (es : List Entry) (mid after : Standing) → mid.history ≡ es → Shuts mid after → HasLostWork es → HasLostWork after.history
-lost_in es mid after same shuts lost =
-    let b = behind_of mid after shuts in
-    (lost.0, subst (λ hs. Contains hs lost.0) (sym b.1) (Contains-append_left mid.history b.0 lost.0 (subst (λ hs. Contains hs lost.0) (sym same) lost.1)), lost.2, lost.3)
+  pub counted_of : CallsAloneAreCounted → VariablesAreTold → ClausesAreTaken → FewAreSat → FewAreUnsat → AreCounted rounds (tally_of_calls p q)
+  counted_of alone vars clauses sat unsat =
+      let same = tally_mid alone in record {
+        vars = ap (λ (t : Tally). t.vars) same ∙ vars rounds c.mid.history behind.rest plays;
+        clauses = ap (λ (t : Tally). t.clauses) same ∙ clauses rounds c.mid.history behind.rest plays;
+        sat = subst (λ (t : Tally). t.sat ≤ 2) (sym same) (sat rounds c.mid.history behind.rest plays);
+        unsat = subst (λ (t : Tally). t.unsat ≤ rounds) (sym same) (unsat rounds c.mid.history behind.rest plays);
+      }
 
 none_ended : (es : List Entry) → es ≡ [] → ¬ HasEnded es
 none_ended [] e ended = let at = ended.1.1 in omega arith
 none_ended (x ∷ es) e ended = absurd cc
 
-module _ (rounds : ℕ) (few : rounds ≤ 10000) (start end old now : World) (p q : Seen) (stay : ItemsStay) (read : ScriptIsRead) (short : ScriptIsShort) (bye_last : ByeIsLast) (rest : start.rest ≡ Some (script_text rounds)) (empty : end.ended ≡ true → IfSome end.rest (λ bytes. bytes ≡ [])) where
-  abbrev Host : How → Type 0
-  Host by = Hosts start end (standing p) (standing q) by
+-- there was no memory for the script
+pub not_drilled : (rounds : ℕ) (old : World) (p : Seen) → IsLegal p.history → HasDrilled drilled.NoMemory rounds old old p p
+not_drilled rounds old p legal = record {
+  ends = (inl refl, refl);
+  place = refl;
+  legal = legal;
+  kept = λ new. record { legal = legal; own = subst (All (IsOwn p.number)) (sym new.history) (All-nil (IsOwn p.number)) };
+  played = λ new e. absurd cc;
+  counted = λ new e. absurd cc;
+  whole = λ new u. absurd (u.memory refl);
+}
+
+module _ (rounds : ℕ) (few : rounds ≤ 10000) (start end old now : World) (p q : Seen) (stay : ItemsStay) (read : ScriptIsRead) (short : ScriptIsShort) (bye_last : ByeIsLast) (rest : start.rest ≡ Some (script_text rounds)) (empty : end.ended ≡ true → IfSome end.rest (λ bytes. bytes ≡ []))
+    (law : AllowedIsReply) (quarter : UsesAQuarter) (t : Tally) where
+  abbrev Served : How → Type 0
+  Served by = ServesCounted start end p q by t
 
   abbrev Told : How → Drilled → Type 0
-  Told by d = TellsDrill by d rounds old now q.history
+  Told by d = TellsDrill by d rounds old now t
 
-  never_eof : ¬ Host how.Eof
-  never_eof h = no_eof rounds start end (standing p) h.mid stay read bye_last rest empty h.session
-
-  shut_too_much : (h : Host how.TooMuch) → Shuts h.mid (standing q)
-  shut_too_much h = elim h.behind [ inl shut ↦ shut | inr none ↦ elim none.told [ ] ]
-
-  left_none : (mid : Standing) → Shuts mid (standing q) → mid.left ≡ 0 → q.left ≡ 0
-  left_none mid (inl shut) none = let l = shut.left in omega arith
-  left_none mid (inr same) none = ap (λ (s : Standing). s.left) same.1 ∙ none
+  never_eof : ¬ Served how.Eof
+  never_eof c = no_eof rounds start end (standing_of p) (standing_of c.mid) stay read bye_last rest empty c.serves.over.session
 
   -- the script is short, so what is too much is that no call is left
-  spent_all : Host how.TooMuch → q.left ≡ 0
-  spent_all h = elim h.session.served.ends.0 [
-    | inl many ↦ absurd (let taken = few_bytes rounds start end (standing p) h.mid stay read bye_last rest empty how.TooMuch h.session in let all = (short rounds).1 in omega arith)
-    | inr spent ↦ left_none h.mid (shut_too_much h) spent.1
+  spent_all : Served how.TooMuch → q.left ≡ 0
+  spent_all c = elim c.serves.over.session.served.ends.0 [
+    | inl many ↦ absurd (let taken = few_bytes rounds start end (standing_of p) (standing_of c.mid) stay read bye_last rest empty how.TooMuch c.serves.over.session in let all = (short rounds).1 in omega arith)
+    | inr spent ↦ left_none start end p q how.TooMuch t c spent.1
   ]
 
-  ends_of : (by : How) (d : Drilled) → Told by d → Host by → DrillEnds d rounds old now p q
-  ends_of how.Bye drilled.Done t h = (record { start = start; end = end; rest = rest; hosts = h }, t)
-  ends_of how.Bye drilled.Cut t h = (record { start = start; end = end; rest = rest; hosts = h }, t)
-  ends_of how.NoMemory drilled.NoMemory t h = (inr (inl (record { start = start; end = end; rest = rest; hosts = h })), t)
-  ends_of how.ReadFault drilled.NoMemory t h = (inr (inr (inl (record { start = start; end = end; rest = rest; hosts = h }))), t)
-  ends_of how.WriteFault drilled.NoMemory t h = (inr (inr (inr (record { start = start; end = end; rest = rest; hosts = h }))), t)
-  ends_of how.TooMuch drilled.TooMuch t h = ((record { start = start; end = end; rest = rest; hosts = h }, spent_all h), t)
-  ends_of how.Dead drilled.Dead t h = (record { start = start; end = end; rest = rest; hosts = h }, t)
-  ends_of how.Eof drilled.Dead t h = absurd (never_eof h)
-  ends_of by d t h = elim t [ ]
+  abbrev played_by : (by : How) → Served by → drill.Plays rounds p q by
+  played_by by c = record { start = start; end = end; rest = rest; has = has_hosted start end p q by (hosts_of start end p q by t c) quarter }
 
-  played : (by : How) (d : Drilled) → Told by d → Host by → IsNew p → d ≡ drilled.Done → IsPlayed rounds q
-  played how.Bye drilled.Done t h new e = played_of rounds few start end p q stay read bye_last rest empty new h
-  played by drilled.Done t h new e = elim t [ ]
-  played by d t h new e = absurd cc
+  ends_of : (by : How) (d : Drilled) → Told by d → Served by → DrillEnds d rounds old now p q
+  ends_of how.Bye drilled.Done told c = (played_by how.Bye c, subst (λ (x : Tally). Wrote old now (tally_text rounds x)) (tally_is start end p q how.Bye t c) told)
+  ends_of how.Bye drilled.Cut told c = (played_by how.Bye c, subst (λ (x : Tally). WroteCut old now (tally_text rounds x)) (tally_is start end p q how.Bye t c) told)
+  ends_of how.NoMemory drilled.NoMemory told c = (inr (inl (played_by how.NoMemory c)), told)
+  ends_of how.ReadFault drilled.NoMemory told c = (inr (inr (inl (played_by how.ReadFault c))), told)
+  ends_of how.WriteFault drilled.NoMemory told c = (inr (inr (inr (played_by how.WriteFault c))), told)
+  ends_of how.TooMuch drilled.TooMuch told c = ((played_by how.TooMuch c, spent_all c), told)
+  ends_of how.Dead drilled.Dead told c = (played_by how.Dead c, told)
+  ends_of how.Eof drilled.Dead told c = absurd (never_eof c)
+  ends_of by d told c = elim told [ ]
 
-  counted : VariablesAreTold → ClausesAreTaken → FewAreSat → FewAreUnsat → (by : How) (d : Drilled) → Told by d → Host by → IsNew p → d ≡ drilled.Done → AreCounted rounds q
-  counted vars clauses sat unsat how.Bye drilled.Done t h new e = counted_of rounds few start end p q stay read bye_last rest empty new h vars clauses sat unsat
-  counted vars clauses sat unsat by drilled.Done t h new e = elim t [ ]
-  counted vars clauses sat unsat by d t h new e = absurd cc
+  played : (by : How) (d : Drilled) → Told by d → Served by → IsNew p → d ≡ drilled.Done → IsPlayed rounds q
+  played how.Bye drilled.Done told c new e = played_of rounds few start end p q stay read bye_last rest empty law new t c
+  played by drilled.Done told c new e = elim told [ ]
+  played by d told c new e = absurd cc
 
-  shut_dead : (h : Host how.Dead) → Shuts h.mid (standing q)
-  shut_dead h = elim h.behind [ inl shut ↦ shut | inr none ↦ elim none.told [ ] ]
+  counted : CallsAloneAreCounted → VariablesAreTold → ClausesAreTaken → FewAreSat → FewAreUnsat → (by : How) (d : Drilled) → Told by d → Served by → IsNew p → d ≡ drilled.Done → AreCounted rounds (tally_of_calls p q)
+  counted alone vars clauses sat unsat how.Bye drilled.Done told c new e = counted_of rounds few start end p q stay read bye_last rest empty law new t c alone vars clauses sat unsat
+  counted alone vars clauses sat unsat by drilled.Done told c new e = elim told [ ]
+  counted alone vars clauses sat unsat by d told c new e = absurd cc
 
-  lost_dead : Host how.Dead → IsNew p → HasLostWork q.history
-  lost_dead h new = lost_in h.session.entries h.mid (standing q) (h.session.history ∙ ap (λ es. es ++ h.session.entries) new.history) (shut_dead h) (h.lost refl (none_ended p.history new.history))
+  lost_dead : Served how.Dead → IsNew p → HasLostWork q.history
+  lost_dead c new =
+      let k = kept_of start end p q how.Dead t c rounds stay read bye_last rest empty law new in
+      let all : All (IsOwn p.number) q.history = subst (λ (n : ℕ). All (IsOwn n) q.history) (number_is start end p q how.Dead t c rounds stay read bye_last rest empty) k.own in
+      let b = closed c.mid q c.shuts in
+      let mid : All (IsOwn p.number) c.mid.history = all_front (IsOwn p.number) c.mid.history b.rest (subst (All (IsOwn p.number)) b.history all) in
+      let es : All (IsOwn p.number) c.serves.over.session.entries = subst (All (IsOwn p.number)) (c.serves.over.session.history ∙ ap (λ xs. xs ++ c.serves.over.session.entries) new.history) mid in
+      lost_after start end p q how.Dead t c
+      (lost start end (standing_of p) (standing_of c.mid) how.Dead c.serves.over.session c.serves.legal (All-weaker (IsOwn p.number) (IsOurs p.number) (λ e o. inl o.by) c.serves.over.session.entries es) refl (none_ended p.history new.history))
 
-  whole : (by : How) (d : Drilled) → Told by d → Host by → IsNew p → IsUndisturbed d rounds old now q → d ≡ drilled.Done
-  whole how.Bye drilled.Done t h new u = refl
-  whole how.Bye drilled.Cut t h new u = absurd (u.writes t.cause)
-  whole how.NoMemory drilled.NoMemory t h new u = absurd (u.memory refl)
-  whole how.ReadFault drilled.NoMemory t h new u = absurd (u.memory refl)
-  whole how.WriteFault drilled.NoMemory t h new u = absurd (u.memory refl)
-  whole how.TooMuch drilled.TooMuch t h new u = absurd (let none = spent_all h in let some = u.calls in omega arith)
-  whole how.Dead drilled.Dead t h new u = absurd (u.work (lost_dead h new))
-  whole how.Eof drilled.Dead t h new u = absurd (never_eof h)
-  whole by d t h new u = elim t [ ]
+  whole : (by : How) (d : Drilled) → Told by d → Served by → IsNew p → IsUndisturbed d rounds old now q → d ≡ drilled.Done
+  whole how.Bye drilled.Done told c new u = refl
+  whole how.Bye drilled.Cut told c new u = absurd (u.writes told.cause)
+  whole how.NoMemory drilled.NoMemory told c new u = absurd (u.memory refl)
+  whole how.ReadFault drilled.NoMemory told c new u = absurd (u.memory refl)
+  whole how.WriteFault drilled.NoMemory told c new u = absurd (u.memory refl)
+  whole how.TooMuch drilled.TooMuch told c new u = absurd (let none = spent_all c in let some = u.calls in omega arith)
+  whole how.Dead drilled.Dead told c new u = absurd (u.work (lost_dead c new))
+  whole how.Eof drilled.Dead told c new u = absurd (never_eof c)
+  whole by d told c new u = elim told [ ]
 
   -- all that holds of a drill that was served on a pass
-  pub has_drilled : VariablesAreTold → ClausesAreTaken → FewAreSat → FewAreUnsat → (by : How) (d : Drilled) → Told by d → Host by → HasDrilled d rounds old now p q
-  has_drilled vars clauses sat unsat by d t h = record {
-    ends = ends_of by d t h;
-    kept = h.kept;
-    played = played by d t h;
-    counted = counted vars clauses sat unsat by d t h;
-    whole = whole by d t h;
+  pub has_drilled : CallsAloneAreCounted → VariablesAreTold → ClausesAreTaken → FewAreSat → FewAreUnsat → (by : How) (d : Drilled) → Told by d → Served by → HasDrilled d rounds old now p q
+  has_drilled alone vars clauses sat unsat by d told c = record {
+    ends = ends_of by d told c;
+    place = place_is start end p q by t c rounds stay read bye_last rest empty;
+    legal = c.legal;
+    kept = kept_of start end p q by t c rounds stay read bye_last rest empty law;
+    played = played by d told c;
+    counted = counted alone vars clauses sat unsat by d told c;
+    whole = whole by d told c;
   }
+
+-- a session whose answers were counted, by other words for its pass
+pub counted_on : (old new : World) (p a b mid q : Seen) (by : How) (s t : Option ℕ) (count : Tally) → a ≡ p → s ≡ None → mid ≡ b
+    → Over old new (standing_of a) (standing_of b) (Rose 0 0) by → Visits (visit a s) (visit b t) → IsLegal mid.history → Shuts mid q → HasCauses q → IsLegal q.history
+    → count ≡ tally_since (standing_of a) (standing_of b) → ServesCounted old new p q by count
+counted_on old new p a b mid q by s t count first fresh last over v legal_mid shuts causes legal is = record {
+  mid = mid;
+  serves = record {
+    over = subst (λ (x : Seen). Over old new (standing_of p) (standing_of x) ⊥ by) (sym last)
+        (subst (λ (x : Seen). Over old new (standing_of x) (standing_of b) ⊥ by) first (never_starved old new (standing_of a) (standing_of b) by over));
+    started = t;
+    visits = visits_as p a b mid s t first fresh last v;
+    legal = legal_mid;
+  };
+  shuts = shuts;
+  causes = causes;
+  legal = legal;
+  tally_is = is ∙ (λ i. tally_since (standing_of (first i)) (standing_of (sym last i)));
+}

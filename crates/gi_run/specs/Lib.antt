@@ -1,6 +1,4 @@
-pub mod Seen
 pub mod Kept
-pub mod Passing
 pub mod Shutting
 pub mod Outcome
 pub mod Output

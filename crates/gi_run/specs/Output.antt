@@ -24,10 +24,12 @@ done_refusal (done.Refused fault) = Some fault
 done_refusal other = None
 
 -- the input was read, its output was written, and the status tells how that ended
-pub record Prints (command : Command) (form : Form) (old new : World) (status : ℕ) (refusal : Option CnfFault) : Type 0 where
+pub record Prints (command : Command) (form : Form) (old new : World) (status : ℕ)
+    (refusal : Option CnfFault) : Type 0 where
   pub by : Done
   pub does : Does command form by old new
   pub status_is : status ≡ done_status by
   pub refusal_is : refusal ≡ done_refusal by
-  -- where nothing disturbs it, the output is whole: that of the value where there is one, else the refusal
+  -- where nothing disturbs it, the output is whole: that of the value where there is one, else the
+  -- refusal
   pub whole : Undisturbed command form by old new does → IsAnswered command form by old new does

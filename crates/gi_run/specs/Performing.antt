@@ -10,20 +10,27 @@ use Rattle.gi_run.specs.Outcome.{Runs}
 use Rattle.gi_run.specs.Output.{Prints}
 use Rattle.gi_run.specs.Drilling.{Drills}
 use Rattle.gi_run.specs.Solving.{SolvesFile}
-use Rattle.gi_run.specs.Seen.{Seen, standing}
+use Rattle.gi_room.specs.Seen.{Seen}
 
--- words that are no command change nothing; a session is served on the pass; an input is read and its output printed,
--- or solved by calls on the pass; the drill is served on the pass
+-- words that are no command change nothing; a session is served on the pass; an input is read and
+-- its output printed, or solved by calls on the pass; the drill is served on the pass
 abbrev pub Performs : Option Command → World → World → Seen → Seen → ℕ → Option CnfFault → Type 0
-Performs None old new before after status refusal = (status ≡ 2) × (refusal ≡ None) × (after ≡ before) × (new ≡ old)
-Performs (Some Run) old new before after status refusal = Runs old new (standing before) (standing after) status × (refusal ≡ None)
-Performs (Some (Check form)) old new before after status refusal = Prints file.Check form old new status refusal × (after ≡ before)
-Performs (Some (Convert form)) old new before after status refusal = Prints file.Convert form old new status refusal × (after ≡ before)
-Performs (Some (Solve form budget)) old new before after status refusal = SolvesFile form budget old new before after status refusal
-Performs (Some (Drill rounds)) old new before after status refusal = Drills rounds old new before after status × (refusal ≡ None)
+Performs None old new before after status refusal = (status ≡ 2) × (refusal ≡ None)
+    × (after ≡ before) × (new ≡ old)
+Performs (Some (Run quiet)) old new before after status refusal =
+    Runs quiet old new before after status × (refusal ≡ None)
+Performs (Some (Check form)) old new before after status refusal =
+    Prints file.Check form old new status refusal × (after ≡ before)
+Performs (Some (Convert form)) old new before after status refusal =
+    Prints file.Convert form old new status refusal × (after ≡ before)
+Performs (Some (Solve form budget)) old new before after status refusal =
+    SolvesFile form budget old new before after status refusal
+Performs (Some (Drill rounds)) old new before after status refusal =
+    Drills rounds old new before after status × (refusal ≡ None)
 
 -- no memory was found while the words were read, and nothing was done
-pub record IsUnread (old new : World) (before after : Seen) (status : ℕ) (refusal : Option CnfFault) : Type 0 where
+pub record IsUnread (old new : World) (before after : Seen) (status : ℕ)
+    (refusal : Option CnfFault) : Type 0 where
   pub status_is : status ≡ 3
   pub none : refusal ≡ None
   pub pass : after ≡ before
@@ -31,4 +38,6 @@ pub record IsUnread (old new : World) (before after : Seen) (status : ℕ) (refu
 
 -- what words ask for was done
 abbrev pub DoesWords : List (List ℕ) → World → World → Seen → Seen → ℕ → Option CnfFault → Type 0
-DoesWords words old new before after status refusal = Performs (command_of words) old new before after status refusal ⊎ IsUnread old new before after status refusal
+DoesWords words old new before after status refusal =
+    Performs (command_of words) old new before after status refusal
+    ⊎ IsUnread old new before after status refusal

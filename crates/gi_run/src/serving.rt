@@ -1,38 +1,31 @@
-// A session on a pass, and the shut behind it.
-ghost use Rattle.std.specs.Prelude.{◌≡◌, true, [], IfSome};
-ghost use Rattle.gi_net.specs.Told.{TellsNoMemory};
-ghost use Rattle.gi_run.specs.Seen.{standing};
-ghost use Rattle.gi_run.specs.Outcome.{Hosts};
+// A session on a pass, and what comes behind it.
+ghost use Rattle.std.specs.Prelude.{◌≡◌, true, All, drop, length};
+ghost use Rattle.gi_room.specs.Calls.{Sole};
+ghost use Rattle.gi_run.specs.Outcome.{HasHosted};
 
-use crate::pass::Pass;
-use crate::session_pass::SessionPass;
-use gi_model::Reply;
-use gi_net::{How, serve_one};
-use gi_outside::{Link, Sent};
-use gi_wire::write_reply;
+use gi_host::{SessionEnd, host_one, too_much_is_a_quarter};
+use gi_outside::Link;
+use gi_room::{Gate, Pass, Room};
 use std::alloc::Global;
+use std::sync::Wait;
+use std::thread::Threads;
 
-/// Serves one session, and then shuts the machine where a call is left. The memory for the entry of that call is taken
-/// first: where it isn't found, `nomem` is all that the session answers.
-pub fn host<L: Link>(alloc: Global, pass: Pass, user: &mut L) -> (How, Pass)
-    ensures hosts { Hosts (L.state user.old) (L.state user.new) (standing pass) (standing result.1) result.0 }
-    ensures empty { (L.state user.new).ended ≡ true → IfSome (L.state user.new).rest (λ bytes. bytes ≡ []) }
+/// Serves one session on the pass, and then shuts the machine where a call is left. Unless it is to
+/// be quiet, a worker works beside the session on its solves.
+pub fn host<R: Threads + Wait + Sync, L: Link, G: Gate + Sync>(
+    rt: &R,
+    alloc: Global,
+    room: &Room,
+    pass: Pass,
+    user: &mut L,
+    gate: &G,
+    quiet: bool,
+) -> SessionEnd
+    requires of { pass.place ≡ room.now }
+    ensures has { HasHosted (L.state user.old) (L.state user.new) pass result.pass result.how }
+    ensures own { quiet ≡ true → Sole pass
+        → All (λ e. e.by ≡ pass.number) (drop (length pass.history) result.pass.history) }
 {
-    match SessionPass::begin(pass) {
-        Ok(mut visit) => {
-            let how = serve_one(alloc, &mut visit, user);
-            (how, visit.end())
-        }
-        Err(pass) => (tell_no_memory(user), pass),
-    }
-}
-
-/// Tells that memory was wanting.
-fn tell_no_memory<L: Link>(user: &mut L) -> How
-    ensures { TellsNoMemory result (L.state user.old) (L.state user.new) }
-{
-    match write_reply(0, &Reply::NoMemory, user) {
-        Sent::Done => How::NoMemory,
-        Sent::Failed => How::WriteFault,
-    }
+    too_much_is_a_quarter();
+    host_one(rt, alloc, room, pass, user, gate, quiet)
 }

@@ -16,11 +16,12 @@ pub struct Telling {
     pub usage: Option<&'static str>,
 }
 
-/// What is told of an ending: the text of its status, the meaning of a refusal where there was one, and a usage exactly where
-/// the status is 2.
+/// What is told of an ending: the text of its status, the meaning of a refusal where there was one,
+/// and a usage exactly where the status is 2.
 pub fn telling_of(words: &Words, ending: Ending) -> Telling
     ensures fault { result.fault.now ≡ fault_text ending.status }
-    ensures meaning { option_map (λ told. told.0) result.meaning ≡ option_map (λ fault. fault.line) ending.refusal }
+    ensures meaning { option_map (λ told. told.0) result.meaning
+        ≡ option_map (λ fault. fault.line) ending.refusal }
     ensures usage { IsSome result.usage ↔ (ending.status ≡ 2) }
 {
     Telling {

@@ -1,13 +1,12 @@
 use Rattle.std.proofs.Common.{refl}
 use Rattle.gi_files.specs.declared.command.Command.TheVariants as file
-use Rattle.gi_run.specs.Seen.{standing}
 use Rattle.gi_run.proofs.Hosting.{runs}
 use Rattle.gi_run.proofs.Printing.{printed}
 use Rattle.gi_run.proofs.running.obey.Goals as goal
 
 pub returns-in-Run-clause-does : goal.returns-in-Run-clause-does
 returns-in-Run-clause-does g c = rw c.in-Run.is
-    (runs (g.L.Link.state c.args.user.now) (g.L.Link.state c.host-how.new.user) (standing c.args.pass) (standing c.host-how.result.1) c.host-how.result.0 c.status_of.result c.host-how.ensures.hosts c.status_of.ensures.value, refl)
+    (runs c.in-Run.quiet (g.L.Link.state c.args.user.now) (g.L.Link.state c.host-how.new.user) c.args.pass c.host-how.result.pass c.host-how.result.how c.status_of.result c.host-how.ensures.has c.host-how.ensures.own c.status_of.ensures.value, refl)
 
 pub returns-in-Check-clause-does : goal.returns-in-Check-clause-does
 returns-in-Check-clause-does g c = rw c.in-Check.is
