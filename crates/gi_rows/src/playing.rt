@@ -1,26 +1,38 @@
 // A row, run and printed.
+use crate::opening::open_with;
 use crate::row::Row;
 use crate::running::{run_behind, run_in};
 use crate::user::user_of;
 use crate::words::parted;
 use gi_command::Words;
 use gi_outside::MemoryLink;
-use gi_run::{Ending, Room, telling_of};
+use gi_run::{Ending, telling_of};
 use std::alloc::{AllocError, Global};
+use std::sync::Wait;
+use std::thread::Threads;
 use std::{io, str};
 
 /// Runs a row. Prints its name, what it writes, its status, and what people are told.
-pub fn print_row(rt: &HostRuntime, row: &Row<'_>) -> io::Result<()> {
+pub fn print_row<R: Threads + Wait + Sync>(
+    rt: &HostRuntime,
+    threads: &R,
+    row: &Row<'_>,
+) -> io::Result<()> {
     println!(rt; "# {}", row.name)?;
     let words = parted(rt.alloc(), row.words)?;
-    let ending = print_run(rt, row, words.as_slice())?;
+    let ending = print_run(rt, threads, row, words.as_slice())?;
     print_ending(rt, &Words::Taken(words), ending)
 }
 
 // Runs words over the link of a row, and prints what they write.
-fn print_run(rt: &HostRuntime, row: &Row<'_>, words: &[String]) -> io::Result<Ending> {
+fn print_run<R: Threads + Wait + Sync>(
+    rt: &HostRuntime,
+    threads: &R,
+    row: &Row<'_>,
+    words: &[String],
+) -> io::Result<Ending> {
     let mut user = user_of(rt.alloc(), row)?;
-    let ending = play(rt.alloc(), row, words, &mut user)?;
+    let ending = play(threads, rt.alloc(), row, words, &mut user)?;
     print_text(rt, user.written())?;
     Ok(ending)
 }
@@ -45,7 +57,8 @@ fn print_ending(rt: &HostRuntime, words: &Words, ending: Ending) -> io::Result<(
 }
 
 // Runs words in the room of a row.
-fn play(
+fn play<R: Threads + Wait + Sync>(
+    rt: &R,
     alloc: Global,
     row: &Row<'_>,
     words: &[String],
@@ -53,8 +66,8 @@ fn play(
 ) -> Result<Ending, AllocError> {
     let calls = row.setting.calls;
     if row.setting.sessions == 0 {
-        run_in(alloc, words, Room::open_with(alloc, calls), user)
+        run_in(rt, alloc, words, open_with(alloc, calls), user)
     } else {
-        run_behind(alloc, calls, words, user)
+        run_behind(rt, alloc, calls, words, user)
     }
 }

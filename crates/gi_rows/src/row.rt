@@ -1,7 +1,8 @@
 use crate::setting::Setting;
 
-/// A row: a line `# NAME`, a line `@ SETTING` for each setting that isn't plain, a line `$ WORDS`, and its input up to the next
-/// row. The line feed before the next row's `#` is no part of the input.
+/// A row: a line `# NAME`, a line `@ SETTING` for each setting that isn't plain, a line `$ WORDS`,
+/// and its input up to the next row. The line feed before the next row's `#` is no part of the
+/// input.
 #[derive(Clone, Copy, Debug)]
 pub struct Row<'a> {
     pub name: &'a str,

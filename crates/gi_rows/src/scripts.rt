@@ -4,7 +4,8 @@ ghost use Rattle.std.specs.Prelude.{◌≤◌};
 use gi_drill::write_script;
 use std::{io, str};
 
-/// Prints of the scripts of 0, 1, 3 and 151 rounds how many lines and bytes they have, and a hash; and how that of 3 begins.
+/// Prints of the scripts of 0, 1, 3 and 151 rounds how many lines and bytes they have, and a hash;
+/// and how that of 3 begins.
 pub fn print_scripts(rt: &HostRuntime) -> io::Result<()> {
     print_script(rt, 0)?;
     print_script(rt, 1)?;

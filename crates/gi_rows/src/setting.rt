@@ -7,7 +7,7 @@ pub struct Setting {
     pub read: u64,
     /// `write`: the number of the write that fails, from 1; 0: none.
     pub write: u64,
-    /// `calls`: how many calls the pass has.
+    /// `calls`: how many calls the pass has, 0 or a power of two.
     pub calls: u64,
     /// `sessions`: how many sessions were served in the room before, 0 or 1.
     pub sessions: u32,
