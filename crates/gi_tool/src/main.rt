@@ -3,15 +3,18 @@
 
 mod answering;
 mod concluding;
+mod resting;
 
 use answering::answer;
 use concluding::conclude;
 use gi_command::take_words;
 use gi_outside::StdLink;
+use resting::RestingGate;
 use std::process::ExitCode;
 
 fn main(rt: HostRuntime) -> ExitCode {
     let words = take_words(&rt, rt.alloc());
-    let ending = answer(rt.alloc(), &words, &mut StdLink::new(&rt));
+    let gate = RestingGate { rt: &rt };
+    let ending = answer(&rt, rt.alloc(), &words, &mut StdLink::new(&rt), &gate);
     conclude(&rt, &words, ending)
 }
