@@ -161,7 +161,7 @@ fn is_fault(fault: CnfFault, want: &str) -> bool {
 
 fn cnf_is(alloc: Global, read: CnfRead, want: &str) -> bool {
     match read {
-        CnfRead::Cnf(cnf) => match write_cnf(alloc, &cnf) {
+        CnfRead::Value(cnf) => match write_cnf(alloc, &cnf) {
             Ok(text) => stands_for(want, text.as_slice()),
             Err(_) => false,
         },
@@ -172,7 +172,7 @@ fn cnf_is(alloc: Global, read: CnfRead, want: &str) -> bool {
 
 fn icnf_is(alloc: Global, read: IcnfRead, want: &str) -> bool {
     match read {
-        IcnfRead::Icnf(icnf) => match write_icnf(alloc, &icnf) {
+        IcnfRead::Value(icnf) => match write_icnf(alloc, &icnf) {
             Ok(text) => stands_for(want, text.as_slice()),
             Err(_) => false,
         },
@@ -256,7 +256,7 @@ fn takes_an_ask(alloc: Global, rest: &[u8]) -> bool {
         return false;
     }
     match reader.finish() {
-        IcnfRead::Icnf(icnf) => icnf.vars == 7 && icnf.items.len() == 1,
+        IcnfRead::Value(icnf) => icnf.vars == 7 && icnf.items.len() == 1,
         _ => false,
     }
 }

@@ -1,8 +1,6 @@
 // Rows from the formats' rules, and each call once with ample memory.
-use gi_dimacs::{CnfCode, CnfFault};
-use gi_files::{
-    CnfInput, Done, Form, IcnfInput, check, convert, read_cnf, read_icnf, write_refused,
-};
+use gi_dimacs::{Cnf, CnfCode, CnfFault, Icnf};
+use gi_files::{Done, FileInput, Form, check, convert, read_file, write_refused};
 use gi_outside::{MemoryLink, Sent};
 use gi_text::Bytes;
 use std::alloc::{AllocError, Global};
@@ -176,8 +174,8 @@ fn faults(rt: HostRuntime) {
 // Whether a CNF file is read with so many variables and clauses.
 fn reads_cnf(alloc: Global, input: &[u8], vars: u32, clauses: usize) -> bool {
     match link(alloc, input, 0, 0) {
-        Ok(mut user) => match read_cnf(alloc, &mut user) {
-            CnfInput::Cnf(cnf) => cnf.vars == vars && cnf.clauses.len() == clauses,
+        Ok(mut user) => match read_file::<Cnf, MemoryLink>(alloc, &mut user) {
+            FileInput::Value(cnf) => cnf.vars == vars && cnf.clauses.len() == clauses,
             _ => false,
         },
         Err(_) => false,
@@ -187,8 +185,8 @@ fn reads_cnf(alloc: Global, input: &[u8], vars: u32, clauses: usize) -> bool {
 // Whether an iCNF file is read with so many variables and items.
 fn reads_icnf(alloc: Global, input: &[u8], vars: u32, items: usize) -> bool {
     match link(alloc, input, 0, 0) {
-        Ok(mut user) => match read_icnf(alloc, &mut user) {
-            IcnfInput::Icnf(icnf) => icnf.vars == vars && icnf.items.len() == items,
+        Ok(mut user) => match read_file::<Icnf, MemoryLink>(alloc, &mut user) {
+            FileInput::Value(icnf) => icnf.vars == vars && icnf.items.len() == items,
             _ => false,
         },
         Err(_) => false,
