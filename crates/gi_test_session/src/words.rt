@@ -10,10 +10,10 @@ use std::alloc::{AllocError, Global};
 
 // Lines of words, with the command that they are.
 const LINES: [(&str, Option<Command>); 26] = [
-    ("run", Some(Command::Run)),
-    ("run -q", Some(Command::Run)),
-    ("-q run", Some(Command::Run)),
-    ("-- run", Some(Command::Run)),
+    ("run", Some(Command::Run { quiet: false })),
+    ("run -q", Some(Command::Run { quiet: true })),
+    ("-q run", Some(Command::Run { quiet: true })),
+    ("-- run", Some(Command::Run { quiet: false })),
     ("check cnf", Some(Command::Check(Form::Cnf))),
     ("check icnf", Some(Command::Check(Form::Icnf))),
     ("convert icnf", Some(Command::Convert(Form::Icnf))),
