@@ -1,6 +1,6 @@
-use crate::sessions::{ask, goes};
 use gi_core::Core;
 use gi_model::{Call, Reply};
+use gi_test_lines::{ask, goes};
 use gi_text::{Bytes, Digits};
 use std::alloc::{AllocError, Global};
 

@@ -72,6 +72,15 @@ drop 4 = ok
 assume 1 3 0 = ok
 test = implied 2 0
 reasons 2 = reasons 1 0
+# the same test again
+add -1 2 0 = ok
+add -2 3 0 = ok
+assume 1 0 = ok
+test = implied 2 3 0
+untest = ok
+assume 1 0 = ok
+test = implied 2 3 0
+reasons 3 = reasons 2 0
 # budgets and stops
 add 1 2 0 = ok
 add 3 4 0 = ok
