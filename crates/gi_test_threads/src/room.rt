@@ -166,7 +166,8 @@ fn poll<R: Wait>(rt: &R, room: &Room, pass: &mut Pass) -> bool
     false
 }
 
-/// Starts a solve, which another pass has to work on, waits for its end by polling alone, and shuts the machine.
+/// Starts a solve, which another pass has to work on, waits for its end by polling alone, and shuts
+/// the machine.
 fn solve_without_work<R: Wait>(rt: &R, room: &Room, pass: &mut Pass) -> bool
     requires of { pass.old.place ≡ room.now }
 {
