@@ -1,0 +1,11 @@
+pub mod Exchanging
+pub mod Turns
+pub mod Speaking
+pub mod Fronts
+pub mod Telling
+pub mod Stopping
+pub mod Typing
+pub mod Sendable
+pub mod Ending
+pub mod Going
+pub mod Exactly

@@ -1,0 +1,5 @@
+pub mod Exchanged
+pub mod Called
+pub mod MidCall
+pub mod Front
+pub mod Laws
