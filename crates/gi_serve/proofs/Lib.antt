@@ -1,0 +1,4 @@
+pub mod Serving
+pub mod Accounting
+pub mod Turning
+pub mod Ending
