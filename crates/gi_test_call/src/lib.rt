@@ -1,0 +1,7 @@
+//! The tests of the client, by public calls alone.
+#![tactic(auto)]
+
+#[cfg(test)]
+mod client;
+#[cfg(test)]
+mod kept;
