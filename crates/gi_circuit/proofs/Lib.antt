@@ -8,3 +8,4 @@ pub mod Goodness
 pub mod Holding
 pub mod Ranking
 pub mod Files
+pub mod Built

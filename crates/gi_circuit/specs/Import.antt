@@ -1,5 +1,5 @@
 -- A circuit from what an AIGER file says: inputs and latches in order, then gates by level and place.
-use Rattle.std.specs.Prelude.{ℕ, ◌+◌, ◌/◌, List, [], map, fold, replicate, slice_set}
+use Rattle.std.specs.Prelude.{ℕ, ◌+◌, ◌/◌, List, map, fold, replicate, slice_set}
 use Rattle.gi_aiger.specs.declared.aig.Aig.{Aig}
 use Rattle.gi_aiger.specs.declared.aig.Latch.{Latch}
 use Rattle.gi_aiger.specs.declared.aig.AndGate.{AndGate}

@@ -3,7 +3,8 @@ use Rattle.std.specs.Prelude.{ℕ, ◌+◌, ◌^◌, ◌<◌, ◌≤◌, length}
 use Rattle.gi_aiger.specs.declared.aig.Aig.{Aig}
 use Rattle.gi_aiger.specs.Good.{IsGood}
 use Rattle.gi_aiger.specs.Levels.{HasLevels, IsDistinct}
-use Rattle.gi_circuit.specs.Import.{var_at}
+use Rattle.gi_circuit.specs.Import.{var_at, circuit_of}
+use Rattle.gi_circuit.specs.Systems.{IsCircuit}
 
 -- all that `from_aig` requires of a value
 pub record IsImportable (v : Aig) : Type 0 where
@@ -18,3 +19,7 @@ pub record IsImportable (v : Aig) : Type 0 where
 -- each value that some file says has it
 abbrev pub GoodIsImportable : Type 0
 GoodIsImportable = (v : Aig) → IsGood v → IsImportable v
+
+-- and its circuit keeps what always holds of circuits
+abbrev pub GoodIsCircuit : Type 0
+GoodIsCircuit = (v : Aig) → IsGood v → IsCircuit (circuit_of v)

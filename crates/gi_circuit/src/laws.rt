@@ -1,7 +1,7 @@
 //! Laws over the definitions, each the contract of a function that does nothing.
 
 ghost use Rattle.gi_circuit.specs.Files.{CircuitsMeanTheirFiles};
-ghost use Rattle.gi_circuit.specs.Importable.{GoodIsImportable};
+ghost use Rattle.gi_circuit.specs.Importable.{GoodIsCircuit, GoodIsImportable};
 ghost use Rattle.gi_circuit.specs.Laws.{ConjunctionsHaveTheirValues, ValuesStay, OrderDoesNotMatter, ConjunctionsComeAgain};
 
 /// What `and` gives has the value of the conjunction, and what is there keeps its value.
@@ -19,6 +19,12 @@ pub fn pairs_come_again()
 /// Each value that some AIGER file says, in either form, meets all that `Circuit::from_aig` requires.
 pub fn good_is_importable()
     ensures { GoodIsImportable }
+{}
+
+/// The circuit of a value that some AIGER file says keeps what always holds of circuits: gates stand behind
+/// their operands, no pair stands twice, and edges are of nodes that exist.
+pub fn good_is_circuit()
+    ensures { GoodIsCircuit }
 {}
 
 /// The circuit that `Circuit::from_aig` makes of a value that some file says means that file: each literal of the

@@ -1,4 +1,4 @@
-use Rattle.std.proofs.Common.{ℕ, List, length, set, sym, ap, ◌∙◌, arith}
+use Rattle.std.proofs.Common.{ℕ, List, length, set, ap, ◌∙◌, arith}
 use Rattle.std.proofs.lemmas.List.{set_past}
 use Rattle.std.proofs.lemmas.List.FromFn.{length-map-range_with_len}
 use Rattle.gi_aiger.specs.Tables.{value_of}
