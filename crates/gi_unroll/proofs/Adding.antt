@@ -2,6 +2,7 @@ use Rattle.std.proofs.Common.{◌≡◌, ◌≢◌, ℕ, suc, ◌+◌, ◌-◌, 
 use Rattle.std.specs.List.{All, sum_by}
 use Rattle.std.proofs.lemmas.Bool.{cases_eq, cases_lt, eq-eqb, ne_eqb}
 use Rattle.std.proofs.lemmas.List.{length-map, get_or_append_left, get_or-append-add}
+use Rattle.std.proofs.lemmas.Grind.{get_or_default_zero}
 use Rattle.std.proofs.lemmas.List.Elements.{All-map}
 use Rattle.std.proofs.lemmas.List.Sums.{sum_by-append}
 use Rattle.gi_circuit.specs.Systems.{System, IsCircuit}
@@ -147,6 +148,7 @@ module _ (s : System) (c : IsCircuit s) (f : Frames) (top n : ℕ) (kept : IsUnr
       let r = nodes_drawn s c f top n kept above in
       let longer = length-longer (latches_along s f n).draft ending r.grows.longer in
       record {
+        nodes = λ k d lt. named (get_or ending.lits k d / 2) (k, lt, ap (λ (l : ℕ). l / 2) (sym (get_or_default_zero ending.lits k d lt)));
         clauses = subst (All (All Named)) (sym grown.clauses.are) (λ k d lt i e il. named (get_or (get_or grown.clauses.more k d) i e / 2) (grown.clauses.known k d lt i e il));
         inputs = edges_named (inputs_along s f n).edges (All-longer (length (latches_along s f n).draft.net) (length ending.net) (inputs_along s f n).edges longer (inputs_within s c f top n kept above));
         latches = edges_named (latches_along s f n).edges (All-longer (length (latches_along s f n).draft.net) (length ending.net) (latches_along s f n).edges longer (latches_drawn s c f top n kept above).within);

@@ -1,5 +1,5 @@
 -- Each choice has one node, so of all values a choice can be read.
-use Rattle.std.proofs.Common.{◌≡◌, ◌≢◌, ℕ, zero, suc, ◌+◌, ◌-◌, ◌<◌, ◌≤◌, Bool, true, false, cond, List, [], ◌∷◌, ◌++◌, length, drop, get_or, Option, Some, None, inl, inr, refl, sym, ap, ◌∙◌, subst, arith}
+use Rattle.std.proofs.Common.{◌≡◌, ℕ, zero, suc, ◌+◌, ◌-◌, ◌<◌, ◌≤◌, Bool, true, false, cond, List, [], ◌∷◌, ◌++◌, length, drop, get_or, Option, Some, None, inl, inr, refl, sym, ap, ◌∙◌, subst, arith}
 use Rattle.std.specs.Prelude.{◌*◌, ◌==◌}
 use Rattle.std.specs.List.{fold, range_with_len}
 use Rattle.std.proofs.lemmas.Bool.{cases_eq, eq-eqb, ne_eqb}
@@ -9,12 +9,12 @@ use Rattle.gi_aiger.specs.declared.aig.Reset.TheVariants.{Zero, One, Free}
 use Rattle.gi_lit.specs.Truth.{true_in}
 use Rattle.gi_circuit.specs.Nodes.{Made, gate_from, folded, gate_in, and_in, pair_of}
 use Rattle.gi_circuit.specs.Systems.{System}
-use Rattle.gi_circuit.specs.Frames.{Draft, Along, Frames, edge_of, lit_of, gate_clauses, with_choice, with_made, with_node, choice_along, input_along, reset_along, draft_of, latches_of, inputs_along, latches_along, rebuilt_draft}
+use Rattle.gi_circuit.specs.Frames.{Draft, Along, Frames, edge_of, lit_of, gate_clauses, with_choice, with_made, with_node, input_along, reset_along, draft_of, latches_of, inputs_along, latches_along, rebuilt_draft}
 use Rattle.gi_circuit.specs.declared.node.Node.{Node}
 use Rattle.gi_circuit.specs.declared.node.Node.TheVariants.{Input, Latch, Gate}
 use Rattle.gi_circuit.proofs.Gates.{and_in-folded, and_in-gate}
 use Rattle.gi_unroll.specs.Steps.{choices_in, empty_draft, frames_of, HasChoices}
-use Rattle.gi_unroll.specs.Frames.{Unrolled, IsUnrolling}
+use Rattle.gi_unroll.specs.Frames.{IsUnrolling}
 use Rattle.gi_unroll.specs.Choices.{read_choice, choice_of}
 use Rattle.gi_unroll.specs.Laws.{ValuesChoose}
 

@@ -1,15 +1,14 @@
 -- What the next frame keeps, as laws, and that earlier frames keep their values.
-use Rattle.std.proofs.Common.{◌≡◌, ℕ, zero, suc, ◌+◌, ◌/◌, ◌<◌, ◌≤◌, Bool, List, [], ◌∷◌, ◌++◌, length, get_or, refl, sym, ap, ◌∙◌, subst, arith, length-append}
-use Rattle.std.specs.List.{All}
+use Rattle.std.proofs.Common.{◌≡◌, ℕ, ◌+◌, Bool, List, ◌++◌, length, get_or, sym, ap, ◌∙◌, arith, length-append}
 use Rattle.std.proofs.lemmas.List.{get_or_append_left}
-use Rattle.gi_lit.specs.Truth.{true_in, Satisfies}
-use Rattle.gi_circuit.specs.Systems.{System, IsCircuit, latch_values}
-use Rattle.gi_circuit.specs.Frames.{Frames, Framed, frame_of}
+use Rattle.gi_lit.specs.Truth.{true_in}
+use Rattle.gi_circuit.specs.Systems.{System, latch_values}
+use Rattle.gi_circuit.specs.Frames.{Frames}
 use Rattle.gi_circuit.specs.Encoding.{Chooses, TellValues, inputs_at, free_at}
 use Rattle.gi_circuit.specs.declared.node.Node.{Node}
-use Rattle.gi_circuit.specs.declared.node.Node.TheVariants.{Input, Latch}
-use Rattle.gi_unroll.specs.Frames.{Unrolled, IsUnrolling, TellList, TellsFrameAt, with_frame}
-use Rattle.gi_unroll.specs.Laws.{FrameKeeps, FramesKeep, IsContinued, EarlierFramesStay, FramesContinue}
+use Rattle.gi_circuit.specs.declared.node.Node.TheVariants.{Latch}
+use Rattle.gi_unroll.specs.Frames.{TellList}
+use Rattle.gi_unroll.specs.Laws.{FramesKeep, IsContinued, EarlierFramesStay, FramesContinue}
 use Rattle.gi_unroll.proofs.Encoding.{satisfies_left}
 use Rattle.gi_unroll.proofs.Adding.{IsKept-frame, literals_kept, encoding_kept, variables_named, few_clauses, fresh_of, made_of}
 

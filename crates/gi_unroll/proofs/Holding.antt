@@ -6,13 +6,13 @@ use Rattle.std.proofs.lemmas.List.Elements.{All-nil}
 use Rattle.gi_lit.specs.Truth.{true_in, clause_true, Satisfies}
 use Rattle.gi_circuit.specs.Systems.{System, IsCircuit}
 use Rattle.gi_circuit.specs.Frames.{Frames, Framed, frame_of, lit_of, inputs_along, latches_along, rebuilt_draft}
-use Rattle.gi_circuit.specs.Encoding.{Chooses, IsUnrolled, inputs_at, free_at}
+use Rattle.gi_circuit.specs.Encoding.{Chooses, inputs_at, free_at}
 use Rattle.gi_unroll.specs.Frames.{Unrolled, unrolled, with_frame, IsUnrolling, TellsFrameAt}
 use Rattle.gi_unroll.specs.Choices.{choice_of, SameTrace, packed}
 use Rattle.gi_unroll.specs.Laws.{HasOneExtension}
 use Rattle.gi_unroll.specs.Steps.{empty_draft}
 use Rattle.gi_unroll.specs.OneByOne.{with_frames, clauses_with, AreAbove, AllTell, AreUnrolled}
-use Rattle.gi_unroll.specs.Traces.{HoldsTrace, AllHold, SayTraces, FramesAreTraces, NoFrameSaysNothing}
+use Rattle.gi_unroll.specs.Traces.{HoldsTrace, AllHold, FramesAreTraces, NoFrameSaysNothing}
 use Rattle.gi_unroll.proofs.Drawing.{inputs_drawn, latches_drawn}
 use Rattle.gi_unroll.proofs.Extensions.{one_extension}
 use Rattle.gi_unroll.proofs.Continuing.{frames_keep}

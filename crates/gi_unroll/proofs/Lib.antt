@@ -14,3 +14,4 @@ pub mod Chosen
 pub mod Tracing
 pub mod Following
 pub mod Holding
+pub mod Growing

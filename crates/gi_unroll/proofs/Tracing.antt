@@ -1,9 +1,7 @@
 -- Values depend on the first inputs and free latches alone, and a trace can be packed into a choice.
-use Rattle.std.proofs.Common.{◌≡◌, ℕ, zero, suc, ◌+◌, ◌-◌, ◌<◌, ◌≤◌, Bool, true, false, List, [], ◌∷◌, ◌++◌, length, map, drop, get_or, ◌⊎◌, inl, inr, refl, sym, ap, ◌∙◌, subst, arith, length-append}
-use Rattle.std.specs.Prelude.{◌*◌, ◌&&◌}
-use Rattle.std.specs.List.{fold, range_with_len}
+use Rattle.std.proofs.Common.{◌≡◌, ℕ, zero, suc, ◌+◌, ◌-◌, ◌<◌, ◌≤◌, Bool, true, false, List, [], ◌∷◌, ◌++◌, length, map, drop, get_or, refl, sym, ap, ◌∙◌, subst, arith, length-append}
+use Rattle.std.specs.List.{fold}
 use Rattle.std.proofs.Math.Nat.{suc-mul}
-use Rattle.std.proofs.lemmas.Bool.{cases_eq}
 use Rattle.std.proofs.lemmas.List.{get_or-drop, get_or_append_left, get_or-append-add}
 use Rattle.std.proofs.lemmas.List.FromFn.{length-map-range_with_len, get_or-map-range_with_len}
 use Rattle.gi_aiger.specs.declared.aig.Reset.{Reset}
@@ -11,10 +9,10 @@ use Rattle.gi_aiger.specs.declared.aig.Reset.TheVariants.{Zero, One, Free}
 use Rattle.gi_circuit.specs.Values.{value_in}
 use Rattle.gi_circuit.specs.Nodes.{value_of, node_values, IsPlaced}
 use Rattle.gi_circuit.specs.Systems.{System, IsCircuit, reset_values, latch_values, value}
-use Rattle.gi_circuit.specs.Encoding.{free_count, choices_before, inputs_at, free_at}
+use Rattle.gi_circuit.specs.Encoding.{free_count, choices_before}
 use Rattle.gi_circuit.specs.declared.node.Node.{Node}
 use Rattle.gi_circuit.specs.declared.node.Node.TheVariants.{Input, Latch, Gate}
-use Rattle.gi_unroll.specs.Choices.{AgreeUpTo, SameTrace, DependOnFirst, ValuesDependOnFirst, first_places, packed, TracesArePacked}
+use Rattle.gi_unroll.specs.Choices.{AgreeUpTo, SameTrace, ValuesDependOnFirst, first_places, packed, TracesArePacked}
 
 -- an input or a latch of those there are
 abbrev Within : ℕ → ℕ → Node → Type 0

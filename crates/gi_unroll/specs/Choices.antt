@@ -1,10 +1,10 @@
 -- Choices and traces: what values choose, what values depend on, and how a trace is packed into a
 -- choice.
-use Rattle.std.specs.Prelude.{◌≡◌, ℕ, zero, suc, ◌<◌, ◌≤◌, Bool, false, List, [], ◌∷◌, ◌++◌, length, drop, map, slice_index_or, slice_index}
+use Rattle.std.specs.Prelude.{◌≡◌, ℕ, zero, suc, ◌<◌, ◌≤◌, Bool, false, List, [], ◌∷◌, ◌++◌, drop, map, slice_index_or, slice_index}
 use Rattle.std.specs.List.{range_with_len}
 use Rattle.gi_lit.specs.Truth.{true_in}
 use Rattle.gi_circuit.specs.Systems.{System, IsCircuit, latch_values, value}
-use Rattle.gi_circuit.specs.Encoding.{Chooses, free_count, inputs_at, free_at}
+use Rattle.gi_circuit.specs.Encoding.{free_count, inputs_at, free_at}
 use Rattle.gi_circuit.specs.declared.node.Node.{Node}
 use Rattle.gi_circuit.specs.declared.node.Node.TheVariants.{Input, Latch, Gate}
 

@@ -100,8 +100,9 @@ abbrev pub IsNamed : Unrolled → ℕ → ℕ → Type 0
 IsNamed u n v = ((n ≤ v) × (v < n + (frame_of u.system u.frames n).fresh))
     ⊎ HasLiteral u.frames.lits v
 
--- each literal of the new frame is of such a variable
+-- each literal of the new frame is of such a variable, and so is each that a node has
 pub record NamesVariables (u : Unrolled) (n : ℕ) : Type 0 where
+  pub nodes : All (λ l. IsNamed u n (l / 2)) (frame_of u.system u.frames n).frames.lits
   pub clauses : All (All (λ l. IsNamed u n (l / 2))) (frame_of u.system u.frames n).added
   pub inputs : All (λ l. IsNamed u n (l / 2)) (frame_of u.system u.frames n).inputs
   pub latches : All (λ l. IsNamed u n (l / 2)) (frame_of u.system u.frames n).latches

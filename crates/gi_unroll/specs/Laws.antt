@@ -5,7 +5,7 @@ use Rattle.gi_circuit.specs.Systems.{System, IsCircuit}
 use Rattle.gi_circuit.specs.Frames.{Frames, Framed, frame_of}
 use Rattle.gi_circuit.specs.declared.node.Node.{Node}
 use Rattle.gi_circuit.specs.Encoding.{Chooses, IsUnrolled}
-use Rattle.gi_unroll.specs.Frames.{Unrolled, most_of, with_frame, IsUnrolling, KeepsEncoding, KeepsLiterals, NamesVariables, IsShort, TellsFrame, TellsFrameAt}
+use Rattle.gi_unroll.specs.Frames.{Unrolled, most_of, with_frame, IsUnrolling, KeepsEncoding, KeepsLiterals, NamesVariables, IsShort, TellsFrameAt}
 use Rattle.gi_unroll.specs.Choices.{choice_of}
 use Rattle.gi_unroll.specs.Steps.{HasLiteral}
 

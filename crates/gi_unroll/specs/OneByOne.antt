@@ -1,5 +1,5 @@
 -- Frames one after another, from the first on, and what all of them encode.
-use Rattle.std.specs.Prelude.{ℕ, ◌<◌, List, [], ◌∷◌, ◌++◌}
+use Rattle.std.specs.Prelude.{◌≡◌, ℕ, ◌<◌, List, [], ◌∷◌, ◌++◌}
 use Rattle.gi_circuit.specs.Systems.{System, IsCircuit}
 use Rattle.gi_circuit.specs.Frames.{Frames, frame_of}
 use Rattle.gi_circuit.specs.Encoding.{IsUnrolled}
@@ -39,3 +39,15 @@ pub record AreUnrolled (s : System) (ns : List ℕ) : Type 0 where
 abbrev pub FramesOneByOne : Type 0
 FramesOneByOne = (s : System) (ns : List ℕ) → IsCircuit s → AreAbove (unrolled s) ns
     → AreUnrolled s ns
+
+-- frames at these numbers and at one more: that one is made last, its clauses stand behind those of
+-- the others, and it begins above them if it begins above all that they took
+pub record IsOneMore (u : Unrolled) (ns : List ℕ) (n : ℕ) : Type 0 where
+  pub frames : with_frames u (ns ++ n ∷ []) ≡ with_frame (with_frames u ns) n
+  pub system : (with_frames u ns).system ≡ u.system
+  pub clauses : clauses_with u (ns ++ n ∷ []) ≡ clauses_with u ns
+      ++ (frame_of (with_frames u ns).system (with_frames u ns).frames n).added
+  pub above : AreAbove u ns → (with_frames u ns).top < n → AreAbove u (ns ++ n ∷ [])
+
+abbrev pub FramesGrow : Type 0
+FramesGrow = (u : Unrolled) (ns : List ℕ) (n : ℕ) → IsOneMore u ns n

@@ -1,7 +1,7 @@
 //! Laws over the definitions, each the contract of a function that does nothing.
 
 ghost use Rattle.gi_unroll.specs.Choices.{TracesArePacked, ValuesDependOnFirst};
-ghost use Rattle.gi_unroll.specs.OneByOne.{FramesOneByOne};
+ghost use Rattle.gi_unroll.specs.OneByOne.{FramesGrow, FramesOneByOne};
 ghost use Rattle.gi_unroll.specs.Traces.{FramesAreTraces, NoFrameSaysNothing};
 ghost use Rattle.gi_unroll.specs.Laws.{EarlierFramesStay, ExtensionsAreOne, FramesContinue, FramesKeep, ValuesChoose};
 
@@ -31,6 +31,11 @@ pub fn earlier_frames_stay()
 /// literals have the values that direct evaluation gives at its time.
 pub fn frames_one_by_one()
     ensures { FramesOneByOne }
+{}
+
+/// One frame more behind others is made last, and its clauses stand behind theirs.
+pub fn frames_grow()
+    ensures { FramesGrow }
 {}
 
 /// What the clauses of all frames made one after another say is what traces are: whatever satisfies

@@ -1,8 +1,6 @@
-use Rattle.std.proofs.Common.{◌≡◌, ℕ, ◌/◌, ◌<◌, ◌≤◌, List, length, map, sym, ap, ◌∙◌, subst, arith}
-use Rattle.std.specs.List.{All, count_by, fold}
-use Rattle.gi_circuit.specs.Nodes.{is_gate, IsOrdered}
-use Rattle.gi_circuit.specs.declared.node.Node.{Node}
-use Rattle.gi_circuit.specs.Frames.{edge_of, with_node}
+use Rattle.std.proofs.Common.{ℕ, ◌/◌, ◌<◌, List, length, map, sym, ap, ◌∙◌, subst, arith}
+use Rattle.std.specs.List.{All}
+use Rattle.gi_circuit.specs.Frames.{edge_of}
 use Rattle.gi_unroll.specs.Steps.{IsLonger}
 use Rattle.gi_unroll.proofs.Steps.{IsLonger-trans, on_err_at}
 use Rattle.gi_unroll.proofs.Extending.{longer_one, ready_two, room_two, edges_two, ordered_two, inputs_two, latches_two, longer_two, edges_three, ready_three, from_three, longer_three, inputs_three, latches_three, frame_is, frames_are, fresh_is}
